@@ -1,0 +1,9 @@
+pub mod Swaps
+pub mod Equations
+pub mod Numbers
+pub mod Alone
+pub mod Right
+pub mod OneRun
+pub mod Faults
+pub mod Ends
+pub mod Sets

@@ -1,0 +1,15 @@
+pub mod Exact
+pub mod Ranges
+pub mod Seen
+pub mod Plan
+pub mod States
+pub mod Launch
+pub mod Moves
+pub mod Clashes
+pub mod Barriers
+pub mod Steps
+pub mod Counts
+pub mod Runs
+pub mod Alone
+pub mod Laws
+pub mod RightFor

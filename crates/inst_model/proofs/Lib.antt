@@ -1,0 +1,4 @@
+pub mod Local
+pub mod Swaps
+pub mod Kernels
+pub mod Written
