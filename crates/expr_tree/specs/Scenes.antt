@@ -66,4 +66,4 @@ rows_over params rows scope inames = filter (λ r. mentions_one inames r.form &&
 abbrev pub points_among : List ℤ → List ℕ → List QuasiRow → List ℕ → Scene → List Scene
 points_among numbers params rows inames at =
     map (widened at inames)
-      (filter (λ zs. rows_hold (widened at inames zs).env (rows_over params rows at.scope inames)) (choices numbers inames))
+    (filter (λ zs. rows_hold (widened at inames zs).env (rows_over params rows at.scope inames)) (choices numbers inames))

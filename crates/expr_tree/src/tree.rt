@@ -1,9 +1,8 @@
 //! Expressions, tests and cells.
+use crate::shared::Shared;
 use affine_rows::{Form, Listed};
 use std::alloc::{AllocError, Global};
 use wrap_words::Kind;
-
-use crate::shared::Shared;
 
 /// An operator on two words of one kind. The first four also combine the points of a reduction.
 #[derive(Clone, Copy, Debug, PartialEq, Eq)]

@@ -1,0 +1,5 @@
+pub mod Digits
+pub mod Entries
+pub mod Lists
+pub mod Pieces
+pub mod StatementLines

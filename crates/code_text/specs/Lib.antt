@@ -1,0 +1,13 @@
+pub mod Bytes
+pub mod KindText
+pub mod FormText
+pub mod BoundText
+pub mod Names
+pub mod Cited
+pub mod ValueText
+pub mod StatementText
+pub mod PreludeText
+pub mod SignatureText
+pub mod LaunchText
+pub mod OpeningText
+pub mod Text

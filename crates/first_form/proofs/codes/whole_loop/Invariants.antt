@@ -1,0 +1,7 @@
+use Rattle.first_form.proofs.codes.whole_loop.Given as goal
+
+abbrev pub ghosts-product : goal.ghosts-product
+ghosts-product a = record {
+  name = a.blank.name;
+  parts = a.blank.parts;
+}

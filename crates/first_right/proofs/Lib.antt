@@ -1,0 +1,9 @@
+pub mod CodePlan
+pub mod CodeValue
+pub mod CodeSide
+pub mod Given
+pub mod Instances
+pub mod Steps
+pub mod Stored
+pub mod Order
+pub mod Joined
