@@ -1,17 +1,18 @@
 #!/usr/bin/env bash
-# Runs the smallest kernel a thousand times, each time in a process of its own, and prints the time of one run and the peak memory.
+# Runs the smallest kernel a thousand times, each time in a process of its own, and prints the time of one run; then the peak
+# memory of one run, where GNU time is installed.
 set -eu
 top=$(cd "$(dirname "${BASH_SOURCE[0]}")/.." && pwd)
-"$top/loopw" write c "$top/examples/double/double.txt" - >/dev/null
+kernel=$top/examples/double/double.txt
+"$top/loopw" write c "$kernel" - >/dev/null
 program=$top/crates/loopw/out/loopw
-python3 - "$program" "$top/examples/double/double.txt" <<'PYTHON'
-import os, resource, subprocess, sys, time
-program, kernel = sys.argv[1:]
-runs = 1000
-start = time.perf_counter()
-for _ in range(runs):
-    subprocess.run([program, "write", "c", kernel, "-"], stdout=subprocess.DEVNULL, check=True)
-taken = time.perf_counter() - start
-peak = resource.getrusage(resource.RUSAGE_CHILDREN).ru_maxrss
-print(f"one run: {1000 * taken / runs:.2f} ms; peak memory: {peak / 1024:.1f} MB")
-PYTHON
+runs=1000
+start=$(date +%s%N)
+for ((run = 0; run < runs; ++run)); do
+  "$program" write c "$kernel" - >/dev/null
+done
+taken=$(($(date +%s%N) - start))
+printf 'one run: %d.%03d ms\n' $((taken / runs / 1000000)) $((taken / runs / 1000 % 1000))
+if env time -f %M true 2>/dev/null; then
+  printf 'peak memory: %s kB\n' "$(env time -f %M "$program" write c "$kernel" - 2>&1 >/dev/null)"
+fi

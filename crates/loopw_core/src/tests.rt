@@ -2,6 +2,7 @@
 use crate::top;
 use host_io::{MemoryHost, ReadError};
 use std::alloc::{AllocError, Global};
+use std::process::Abort;
 use std::test::Fail;
 
 const DOUBLE: &str = "kernel 1
@@ -117,21 +118,21 @@ fn faults_of_the_host_have_a_status_each(rt: HostRuntime) -> Result<(), Fail> {
     Ok(())
 }
 
+fn gives_the_usage_line(rt: &impl Abort, alloc: Global, words: &[&str]) -> Result<(), Fail> {
+    let mut host = host_with(alloc, Some(DOUBLE.as_bytes()), 50, &[], &[])?;
+    let words = words_of(alloc, words)?;
+    assert_eq!(rt; top(alloc, &words, &mut host), 2);
+    assert!(rt; host.out_bytes().is_empty());
+    assert_eq!(rt; host.err_bytes(), USAGE.as_bytes());
+    Ok(())
+}
+
 #[test]
 fn other_words_give_the_usage_line(rt: HostRuntime) -> Result<(), Fail> {
     let alloc = rt.alloc();
-    for words in [
-        [].as_slice(),
-        ["write", "fortran", "k", "s"].as_slice(),
-        ["write", "c", "double.txt", "s"].as_slice(),
-        ["write", "c", "double.txt", "-", "-"].as_slice(),
-        ["show", "double.txt", "-"].as_slice(),
-    ] {
-        let mut host = host_with(alloc, Some(DOUBLE.as_bytes()), 50, &[], &[])?;
-        let words = words_of(alloc, words)?;
-        assert_eq!(rt; top(alloc, &words, &mut host), 2);
-        assert!(rt; host.out_bytes().is_empty());
-        assert_eq!(rt; host.err_bytes(), USAGE.as_bytes());
-    }
-    Ok(())
+    gives_the_usage_line(&rt, alloc, &[])?;
+    gives_the_usage_line(&rt, alloc, &["write", "fortran", "k", "s"])?;
+    gives_the_usage_line(&rt, alloc, &["write", "c", "double.txt", "s"])?;
+    gives_the_usage_line(&rt, alloc, &["write", "c", "double.txt", "-", "-"])?;
+    gives_the_usage_line(&rt, alloc, &["show", "double.txt", "-"])
 }
