@@ -1,1 +1,11 @@
 pub mod FormLaws
+pub mod Divisors
+pub mod Division
+pub mod Sums
+pub mod Mixing
+pub mod Combining
+pub mod Quotients
+pub mod Left
+pub mod FormEquations
+pub mod FormRules
+pub mod NameSets

@@ -1,8 +1,8 @@
 -- The value of an index form, and how it is measured.
 use Rattle.std.specs.Prelude.{ℕ, ◌+◌, ◌-◌, ◌*◌, ◌/◌, ◌^◌, ◌≤◌, ℤ, pos, ◌+ℤ◌, ◌*ℤ◌, ◌≤ℤ◌, List, [], ◌∷◌, sum, sum_by, unsigned_abs}
 use Rattle.std.specs.Int.{int_div_euclid}
-use Rattle.affine_rows.specs.declared.quasi.Quasi.{Quasi, Quasi-F, roll-Quasi, fold-Quasi, every-Quasi}
-use Rattle.affine_rows.specs.declared.quasi.Floor.{Floor, Floor-F, fold-Floor, every-Floor}
+use Rattle.affine_rows.specs.declared.quasi.Quasi.{Quasi, Quasi-F, roll-Quasi, out-Quasi, fold-Quasi, every-Quasi}
+use Rattle.affine_rows.specs.declared.quasi.Floor.{Floor, Floor-F, out-Floor, fold-Floor, every-Floor}
 use Rattle.affine_rows.specs.Rows.{Env, terms_at}
 
 -- a form without floors
@@ -52,14 +52,20 @@ sum_count = fold-Quasi ℕ ℕ floor_count sum_step
 abbrev pub constant_count : Quasi → ℕ
 constant_count = fold-Quasi ℕ ℕ floor_count constant_step
 
--- neither the sum nor the constant passes 2^62
+-- neither the sum nor the constant passes 2^62, and the factors of the floors together do not pass 2^63
 pub record IsSmall (q : Quasi) : Type 0 where
   pub sum : sum_count q ≤ 2 ^ 62
   pub constant : constant_count q ≤ 2 ^ 62
+  pub factors : sum_by (λ f. unsigned_abs (out-Floor f).times) (out-Quasi q).floors ≤ 2 ^ 63
 
--- each divisor is at least 1, and each form is small
+-- the divisor is at least 1, and the factor does not pass 2^62
+pub record IsQuotient (times by : ℤ) : Type 0 where
+  pub positive : pos 1 ≤ℤ by
+  pub entry : unsigned_abs times ≤ 2 ^ 62
+
+-- each floor has a divisor and a factor within the limits, and each form is small
 pub record IsForm (q : Quasi) : Type 0 where
-  pub layers : every-Quasi (λ f. pos 1 ≤ℤ f.by) (λ layer. IsSmall (roll-Quasi layer)) q
+  pub layers : every-Quasi (λ f. IsQuotient f.times f.by) (λ layer. IsSmall (roll-Quasi layer)) q
 
 pub record IsFloor (f : Floor) : Type 0 where
-  pub layers : every-Floor (λ f. pos 1 ≤ℤ f.by) (λ layer. IsSmall (roll-Quasi layer)) f
+  pub layers : every-Floor (λ f. IsQuotient f.times f.by) (λ layer. IsSmall (roll-Quasi layer)) f

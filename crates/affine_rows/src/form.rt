@@ -57,7 +57,8 @@ impl Form {
 
     /// The constant, the terms and the floors.
     pub fn quasi(&self) -> &Quasi
-        ensures { result.now ≡ self.now }
+        ensures same { result.now ≡ self.now }
+        ensures form { IsForm self.now }
     {
         &self.quasi
     }

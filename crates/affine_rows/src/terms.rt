@@ -1,6 +1,8 @@
 //! The terms of a row.
-ghost use Rattle.std.specs.Prelude.{◌≡◌, [], ◌∷◌, ◌++◌, OnOk, OnErr};
+ghost use Rattle.std.specs.Prelude.{◌≡◌, [], ◌∷◌, ◌++◌, ◌<◌, ◌≤◌, ◌^◌, map, IfOk, OnOk, OnErr};
+ghost use Rattle.affine_rows.specs.Reduced.{divided_term};
 
+use crate::divide::divided_term;
 use smallvec::SmallVec;
 use std::alloc::{AllocError, Global};
 use std::marker::Model;
@@ -29,6 +31,22 @@ impl Terms {
         }
     }
 
+    /// No terms, with memory for so many.
+    pub fn with_capacity(alloc: Global, count: usize) -> Result<Terms, AllocError>
+        ensures { IfOk result (λ it. it ≡ []) }
+    {
+        let terms = SmallVec::with_capacity(alloc, count)?;
+        Ok(Terms { terms })
+    }
+
+    /// A copy of the terms.
+    pub fn from_slice(alloc: Global, terms: &[(u32, i64)]) -> Result<Terms, AllocError>
+        ensures { IfOk result (λ it. it ≡ terms.now) }
+    {
+        let terms = SmallVec::from_slice(alloc, terms)?;
+        Ok(Terms { terms })
+    }
+
     /// The terms in order.
     pub fn as_slice(&self) -> &[(u32, i64)]
         ensures { result.now ≡ self.now }
@@ -43,5 +61,18 @@ impl Terms {
     {
         self.terms.push(term)?;
         Ok(())
+    }
+
+    /// Divides each factor, rounding down.
+    #[tactic(auto, using(std::proofs::lemmas::List::Edits::map_over_more))]
+    pub(crate) fn divide(&mut self, by: u128)
+        requires positive { 0 < by }
+        requires small { by ≤ 2 ^ 126 }
+        ensures { self.new ≡ map (divided_term by) self.old }
+    {
+        let terms = self.terms.as_mut_slice();
+        for i in 0..terms.len() {
+            terms[i] = divided_term(terms[i], by);
+        }
     }
 }

@@ -1,4 +1,7 @@
-use crate::{Form, Listed, Name, Names, Terms};
+use crate::{
+    Form, Listed, Name, Names, Row, RowFault, Terms, combine, factor, reduce, tighten, value_at,
+};
+use std::alloc::{AllocError, Global};
 use std::test::Fail;
 
 #[test]
@@ -38,5 +41,51 @@ fn a_form_has_its_parts(rt: HostRuntime) -> Result<(), Fail> {
     let mut terms = Terms::new(alloc);
     terms.push((4, -7))?;
     assert_eq!(rt; terms.as_slice(), [(4, -7)].as_slice());
+    Ok(())
+}
+
+#[test]
+fn rows_are_divided(rt: HostRuntime) -> Result<(), Fail> {
+    let alloc = rt.alloc();
+    let mut reduced = Row {
+        constant: -6,
+        terms: Terms::from_slice(alloc, &[(0, 4), (2, -10)])?,
+        equal: true,
+    };
+    reduce(&mut reduced);
+    assert_eq!(rt; reduced.constant, -3);
+    assert_eq!(rt; reduced.terms.as_slice(), [(0, 2), (2, -5)].as_slice());
+    let mut tight = Row {
+        constant: -7,
+        terms: Terms::from_slice(alloc, &[(0, 4), (2, -10)])?,
+        equal: false,
+    };
+    tighten(&mut tight);
+    assert_eq!(rt; tight.constant, -4);
+    assert_eq!(rt; tight.terms.as_slice(), [(0, 2), (2, -5)].as_slice());
+    Ok(())
+}
+
+#[test]
+fn a_variable_cancels(rt: HostRuntime) -> Result<(), Fail> {
+    let alloc = rt.alloc();
+    let lower = Row {
+        constant: -1,
+        terms: Terms::from_slice(alloc, &[(0, 2), (1, 4)])?,
+        equal: false,
+    };
+    let upper = Row {
+        constant: 5,
+        terms: Terms::from_slice(alloc, &[(0, -6), (2, 3)])?,
+        equal: true,
+    };
+    assert_eq!(rt; factor(upper.terms.as_slice(), 2), 3);
+    assert_eq!(rt; value_at(&upper, &[2, 8, -1]), -10);
+    let sum = combine(alloc, &lower, &upper, 0);
+    let constant = match &sum {
+        Ok(row) => row.constant,
+        Err(_) => 0,
+    };
+    assert_eq!(rt; constant, 2);
     Ok(())
 }

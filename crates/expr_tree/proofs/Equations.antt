@@ -1,6 +1,6 @@
 -- What each sort of node means, one equation a variant.
-use Rattle.std.specs.Prelude.{◌≡◌, ℕ, ℤ, List, map}
-use Rattle.std.proofs.Common.{refl, sym, ap, ◌∙◌, rules}
+use Rattle.std.specs.Prelude.{◌≡◌, ℕ, List}
+use Rattle.std.proofs.Common.{rules}
 use Rattle.wrap_words.specs.declared.kind.Kind.{Kind}
 use Rattle.affine_rows.specs.declared.quasi.Quasi.{Quasi}
 use Rattle.expr_tree.specs.declared.tree.Op.{Op}
@@ -11,7 +11,7 @@ use Rattle.expr_tree.specs.declared.tree.Test.{Test}
 use Rattle.expr_tree.specs.declared.tree.Test.TheVariants as test
 use Rattle.expr_tree.specs.declared.tree.Node.{Node, the_lemmas}
 use Rattle.expr_tree.specs.declared.tree.Node.TheVariants as node
-use Rattle.expr_tree.specs.declared.tree.Node.TheOpen.{Node-F, Test-F, Expr-F}
+use Rattle.expr_tree.specs.declared.tree.Node.TheOpen.{Node-F, Test-F}
 use Rattle.expr_tree.specs.Meaning.{World, node_meaning, test_meaning, meaning_of, meaning_of_node, meaning_of_test}
 
 pub meaning-tree : (w : World) (m : Node) → meaning_of w (record { node = m }) ≡ meaning_of_node w m

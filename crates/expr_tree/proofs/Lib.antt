@@ -1,1 +1,9 @@
 pub mod Equations
+pub mod ValueParts
+pub mod Layers
+pub mod Plain
+pub mod ValueLaw
+pub mod AllParts
+pub mod NodeCounts
+pub mod SampleTrees
+pub mod Unreplaced

@@ -4,3 +4,7 @@ pub mod Depth
 pub mod Value
 pub mod Scenes
 pub mod Meaning
+pub mod Rewritten
+pub mod Keeping
+pub mod Samples
+pub mod Laws

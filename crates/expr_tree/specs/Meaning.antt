@@ -1,11 +1,10 @@
 -- The value of an expression with rule uses and reductions.
-use Rattle.std.specs.Prelude.{ℕ, ◌-◌, ◌^◌, zero, suc, ℤ, pos, Bool, true, false, ◌&&◌, List, [], ◌∷◌, map, Option, Some, None}
+use Rattle.std.specs.Prelude.{ℕ, ◌-◌, ◌^◌, ℤ, pos, Bool, true, false, ◌&&◌, List, [], ◌∷◌, map, Option}
 use Rattle.std.specs.List.{list_all}
 use Rattle.wrap_words.specs.declared.kind.Kind.{Kind}
 use Rattle.wrap_words.specs.declared.kind.Kind.TheVariants.{I32, I64, U32, U64}
 use Rattle.wrap_words.specs.declared.kind.Word.{Word}
 use Rattle.wrap_words.specs.Words.{word_of}
-use Rattle.affine_rows.specs.Rows.{Env}
 use Rattle.affine_rows.specs.Forms.{form_at}
 use Rattle.expr_tree.specs.declared.tree.Op.{Op}
 use Rattle.expr_tree.specs.declared.tree.Op.TheVariants.{Add, Mul, Min, Max}

@@ -1,9 +1,8 @@
 -- Where an expression stands: the inames in scope, and the number of each variable.
-use Rattle.std.specs.Prelude.{ℕ, zero, suc, ◌*◌, ◌^◌, ℤ, pos, ◌+ℤ◌, neg_ℤ, Bool, true, false, ◌&&◌, ◌||◌, not, nat_eq, int_le, if◌then◌else◌, List, [], ◌∷◌, ◌++◌, map, flat_map, filter}
+use Rattle.std.specs.Prelude.{ℕ, zero, suc, ◌^◌, ℤ, pos, ◌+ℤ◌, neg_ℤ, Bool, ◌&&◌, not, nat_eq, int_le, if◌then◌else◌, List, [], ◌∷◌, ◌++◌, map, flat_map, filter}
 use Rattle.std.specs.Ordering.{int_eq}
 use Rattle.std.specs.List.{list_all, list_any}
-use Rattle.affine_rows.specs.declared.quasi.Quasi.{Quasi, Quasi-F, fold-Quasi}
-use Rattle.affine_rows.specs.declared.quasi.Floor.{Floor-F}
+use Rattle.affine_rows.specs.declared.quasi.Quasi.{Quasi, fold-Quasi}
 use Rattle.affine_rows.specs.Rows.{Env}
 use Rattle.affine_rows.specs.Forms.{form_at}
 use Rattle.expr_tree.specs.declared.row.QuasiRow.{QuasiRow}

@@ -6,7 +6,7 @@ use crate::tree::{Expr, Node, Test};
 
 /// Whether the node is at most so deep.
 #[cycle(depth)]
-pub fn node_within(node: &Node, most: u32) -> bool
+pub(crate) fn node_within(node: &Node, most: u32) -> bool
     ensures { IsTrue result ↔ (depth_of_node node.now ≤ most) }
 {
     if most == 0 {
@@ -35,8 +35,9 @@ fn expr_within(expr: &Expr, most: u32) -> bool
     node_within(expr.node(), most)
 }
 
+/// Whether the test is at most so deep.
 #[cycle(depth)]
-fn test_within(test: &Test, most: u32) -> bool
+pub(crate) fn test_within(test: &Test, most: u32) -> bool
     ensures { IsTrue result ↔ (depth_of_test test.now ≤ most) }
 {
     if most == 0 {

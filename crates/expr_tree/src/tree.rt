@@ -81,6 +81,15 @@ impl Expr {
         self.node.get()
     }
 
+    /// An equal tree, which shares the node with this one.
+    pub fn copy(&self) -> Result<Expr, AllocError>
+        ensures { IfOk result (λ e. e ≡ self.now) }
+    {
+        Ok(Expr {
+            node: self.node.share()?,
+        })
+    }
+
     pub(crate) fn of_node(alloc: Global, node: Node) -> Result<Expr, AllocError>
         ensures { IfOk result (λ e. node_of e ≡ node) }
     {

@@ -1,0 +1,12 @@
+pub mod Runs
+pub mod Values
+pub mod OneLexeme
+pub mod Followers
+pub mod ByteLaws
+pub mod Stuck
+pub mod FrontLexemes
+pub mod ReadOn
+pub mod LinePlaces
+pub mod ReadSteps
+pub mod Within
+pub mod SpelledTokens

@@ -1,0 +1,10 @@
+pub mod Signs
+pub mod Bytes
+pub mod Numbers
+pub mod Lexemes
+pub mod Tokens
+pub mod Faults
+pub mod Progress
+pub mod Limits
+pub mod Spelling
+pub mod Laws
