@@ -45,7 +45,7 @@ numbers_from least zero = []
 numbers_from least (suc n) = least ∷ numbers_from (least +ℤ pos 1) n
 
 -- all numbers that an iname may have
-pub every_number : List ℤ
+unfoldable pub every_number : List ℤ
 every_number = numbers_from (neg_ℤ (pos (2 ^ 31))) (2 ^ 32)
 
 -- each list of one of these numbers for each of the inames, the last one varying fastest

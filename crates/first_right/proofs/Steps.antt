@@ -98,5 +98,5 @@ module _ (f : FirstForm) (a : Arguments) (z : ℤ) where
   -- and it leaves the product of the factor and the word that it read
   pub changed_is : (m : Memory) (w : Word) → changed K a (at f.factor z) m w ≡ low_bits I32 (multiplied f.factor (m (read_spot z)))
   changed_is m w =
-      ap (low_bits I32) (value_at (world_of K (sight_of K a (at f.factor z) m)) there I32 f.factor)
+      ap (low_bits I32) (value_at (world_of K a (sight_of K a (at f.factor z) m)) there I32 f.factor)
       ∙ ap₂ (λ (c y : ℤ). low_bits I32 (apply Mul I32 (word_of I32 c) (m (read_spot y)))) (constant_is there.env f.factor) iname_is

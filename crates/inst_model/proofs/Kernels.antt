@@ -60,9 +60,9 @@ apart_free K a x y apart = record {
   one_cell = λ e s w.
       let k = kind_of K x.insn.cell in let l = kind_of K y.insn.cell in
       puts_swap x.insn.storing y.insn.storing (apart.one_cell e)
-      (test_holds (world_of K (sight_of K a x s)) x.insn.test (scene_of K a x) k) (test_holds (world_of K (sight_of K a y s)) y.insn.test (scene_of K a y) l) k l
+      (test_holds (world_of K a (sight_of K a x s)) x.insn.test (scene_of K a x) k) (test_holds (world_of K a (sight_of K a y s)) y.insn.test (scene_of K a y) l) k l
       (ap (kind_of K) (sym (cell_of_spot K (scene_of K a x).env x.insn.cell _) ∙ (ap (λ (z : Spot). z.cell) e ∙ cell_of_spot K (scene_of K a y).env y.insn.cell _)))
-      w ((meaning_of (world_of K (sight_of K a x s)) x.insn.value (scene_of K a x)).at k) ((meaning_of (world_of K (sight_of K a y s)) y.insn.value (scene_of K a y)).at l);
+      w ((meaning_of (world_of K a (sight_of K a x s)) x.insn.value (scene_of K a x)).at k) ((meaning_of (world_of K a (sight_of K a y s)) y.insn.value (scene_of K a y)).at l);
 }
 
 same_instances : (K : Kernel) (a : Arguments) (xs ys : List Instance) → IsRespectingOrder K a xs → IsRespectingOrder K a ys → AreSame xs ys

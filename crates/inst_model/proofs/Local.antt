@@ -17,7 +17,8 @@ use Rattle.expr_tree.specs.Meaning.{World, node_meaning, test_meaning, expr_mean
 use Rattle.kernel_ir.specs.declared.kernel.Kernel.{Kernel}
 use Rattle.kernel_ir.specs.declared.kernel.SubstRule.{SubstRule}
 use Rattle.inst_model.specs.Memory.{Spot, Memory, low_bits, put_word}
-use Rattle.inst_model.specs.Arguments.{Arguments, kind_of}
+use Rattle.affine_rows.specs.Rows.{Env}
+use Rattle.inst_model.specs.Arguments.{Arguments, params_at, kind_of}
 use Rattle.inst_model.specs.Instances.{Instance, scene_of}
 use Rattle.inst_model.specs.Running.{gather_to, points_of, rule_gathered, rule_meaning, world_to, world_of, within_rule, gathered_of_test, reading, read_spots, sight_of, spot_of, changed, test_holds, Gather, node_gather, test_gather, expr_gather, gathered, gathered_of_node, gathered_in_test}
 use Rattle.step_orders.proofs.Lists.{has_left, has_right}
@@ -180,22 +181,22 @@ module _ {A : Type 0} (g : Gather A) (P : A → Type 0) (w v : World) (same : Ag
       (λ x y is. subst (λ z. LocalExpr g P w v (roll-Expr z)) is (expr_at (map-Expr _ _ _ _ _ _ (λ e. e.0) (λ e. e.0) (λ e. e.0) y) y.node.1))
 
 -- Two worlds of one kernel, over stores that agree where P holds.
-module _ (K : Kernel) (s t : Store) (P : Spot → Type 0) (spot : Cell → List ℤ → Spot)
+module _ (K : Kernel) (base : Env) (s t : Store) (P : Spot → Type 0) (spot : Cell → List ℤ → Spot)
     (kind : s.kind ≡ t.kind) (has : s.has ≡ t.has) (word : (cell : Cell) (place : List ℤ) → P (spot cell place) → s.word cell place ≡ t.word cell place) where
   abbrev gather : ℕ → Gather Spot
-  gather = gather_to K (λ cell place at. spot cell (map (form_at at.env) place) ∷ []) (points_of K)
+  gather = gather_to K base (λ cell place at. spot cell (map (form_at at.env) place) ∷ []) (points_of K)
 
-  rule_alike : (n : ℕ) → Agree (gather n) P (world_to K s n) (world_to K t n) → (rule : Option SubstRule) (arguments : List Quasi) (at : Scene)
-      → On P (rule_gathered (gather n) rule arguments at) → rule_meaning (world_to K s n) rule (map (form_at at.env) arguments) at ≡ rule_meaning (world_to K t n) rule (map (form_at at.env) arguments) at
+  rule_alike : (n : ℕ) → Agree (gather n) P (world_to K base s n) (world_to K base t n) → (rule : Option SubstRule) (arguments : List Quasi) (at : Scene)
+      → On P (rule_gathered base (gather n) rule arguments at) → rule_meaning base (world_to K base s n) rule (map (form_at at.env) arguments) at ≡ rule_meaning base (world_to K base t n) rule (map (form_at at.env) arguments) at
   rule_alike n same None arguments at on = refl
-  rule_alike n same (Some rule) arguments at on = local (gather n) P (world_to K s n) (world_to K t n) same rule.body (within_rule rule (map (form_at at.env) arguments) at) on
+  rule_alike n same (Some rule) arguments at on = local (gather n) P (world_to K base s n) (world_to K base t n) same rule.body (within_rule base rule (map (form_at at.env) arguments) at) on
 
-  rule_first : (n : ℕ) → Agree (gather n) P (world_to K s n) (world_to K t n) → (rule : Option SubstRule) (numbers : List ℤ) (at : Scene)
-      → (rule_meaning (world_to K s n) rule numbers at).first ≡ (rule_meaning (world_to K t n) rule numbers at).first
+  rule_first : (n : ℕ) → Agree (gather n) P (world_to K base s n) (world_to K base t n) → (rule : Option SubstRule) (numbers : List ℤ) (at : Scene)
+      → (rule_meaning base (world_to K base s n) rule numbers at).first ≡ (rule_meaning base (world_to K base t n) rule numbers at).first
   rule_first n same None numbers at = refl
-  rule_first n same (Some rule) numbers at = first_alike (gather n) P (world_to K s n) (world_to K t n) same rule.body (within_rule rule numbers at)
+  rule_first n same (Some rule) numbers at = first_alike (gather n) P (world_to K base s n) (world_to K base t n) same rule.body (within_rule base rule numbers at)
 
-  pub worlds_agree : (n : ℕ) → Agree (gather n) P (world_to K s n) (world_to K t n)
+  pub worlds_agree : (n : ℕ) → Agree (gather n) P (world_to K base s n) (world_to K base t n)
   worlds_agree zero = record {
     kind = kind;
     has = has;
@@ -216,20 +217,20 @@ module _ (K : Kernel) (s t : Store) (P : Spot → Type 0) (spot : Cell → List 
   }
 
 -- What an instance leaves in its cell depends on the cells that it reads alone.
-test_alike : (K : Kernel) (a : Arguments) (x : Instance) (m m' : Memory) → Agree (reading K a x) (λ s. m s ≡ m' s) (world_of K (sight_of K a x m)) (world_of K (sight_of K a x m'))
+test_alike : (K : Kernel) (a : Arguments) (x : Instance) (m m' : Memory) → Agree (reading K a x) (λ s. m s ≡ m' s) (world_of K a (sight_of K a x m)) (world_of K a (sight_of K a x m'))
     → (test : Option Test) (k : Kind) → On (λ s. m s ≡ m' s) (gathered_of_test (reading K a x) test (scene_of K a x))
-    → test_holds (world_of K (sight_of K a x m)) test (scene_of K a x) k ≡ test_holds (world_of K (sight_of K a x m')) test (scene_of K a x) k
+    → test_holds (world_of K a (sight_of K a x m)) test (scene_of K a x) k ≡ test_holds (world_of K a (sight_of K a x m')) test (scene_of K a x) k
 test_alike K a x m m' same None k on = refl
-test_alike K a x m m' same (Some t) k on = ap (λ (z : TestSense). z.holds k) (local_test (reading K a x) (λ s. m s ≡ m' s) (world_of K (sight_of K a x m)) (world_of K (sight_of K a x m')) same t (scene_of K a x) on)
+test_alike K a x m m' same (Some t) k on = ap (λ (z : TestSense). z.holds k) (local_test (reading K a x) (λ s. m s ≡ m' s) (world_of K a (sight_of K a x m)) (world_of K a (sight_of K a x m')) same t (scene_of K a x) on)
 
 pub reads_only : (K : Kernel) (a : Arguments) (x : Instance) (m m' : Memory) → ((s : Spot) → Has (read_spots K a x) s → m s ≡ m' s) → (w : Word) → changed K a x m w ≡ changed K a x m' w
 reads_only K a x m m' on w =
     let at = scene_of K a x in
     let P : Spot → Type 0 = λ s. m s ≡ m' s in
     let k = kind_of K x.insn.cell in
-    let same = worlds_agree K (sight_of K a x m) (sight_of K a x m') (λ s. m s ≡ m' s) (spot_of K at.env) refl refl (λ cell place e. e) (length K.rules) in
+    let same = worlds_agree K (params_at K a) (sight_of K a x m) (sight_of K a x m') (λ s. m s ≡ m' s) (spot_of K at.env) refl refl (λ cell place e. e) (length K.rules) in
     let tests = gathered_of_test (reading K a x) x.insn.test at in
     let values = gathered (reading K a x) x.insn.value at in
     ap₂ (λ (b : Bool) (z : Sense). if b then put_word x.insn.storing k w (low_bits k (z.at k)) else w)
     (test_alike K a x m m' same x.insn.test k (on_left (λ s. m s ≡ m' s) tests values on))
-    (local (reading K a x) (λ s. m s ≡ m' s) (world_of K (sight_of K a x m)) (world_of K (sight_of K a x m')) same x.insn.value at (on_right (λ s. m s ≡ m' s) tests values on))
+    (local (reading K a x) (λ s. m s ≡ m' s) (world_of K a (sight_of K a x m)) (world_of K a (sight_of K a x m')) same x.insn.value at (on_right (λ s. m s ≡ m' s) tests values on))

@@ -22,7 +22,7 @@ use Rattle.step_orders.specs.Orders.{Steps, after_steps}
 use Rattle.expr_tree.specs.Scenes.{Scene, given, is_among, every_number, points_among}
 use Rattle.expr_tree.specs.Meaning.{World, meaning_of, meaning_of_test}
 use Rattle.inst_model.specs.Memory.{Spot, Memory, same_cell, same_spot, low_bits, put_word, flat_index, places_of}
-use Rattle.inst_model.specs.Arguments.{Arguments, extents, kind_of}
+use Rattle.inst_model.specs.Arguments.{Arguments, params_at, extents, kind_of}
 use Rattle.inst_model.specs.Instances.{Instance, scene_of}
 
 -- What is gathered from the reads of an expression, those in the rules that it uses among them.
@@ -68,43 +68,43 @@ abbrev pub gathered_of_test : {A : Type 0} → Gather A → Option Test → Scen
 gathered_of_test g None at = []
 gathered_of_test g (Some t) at = gathered_in_test g t at
 
--- the scene of a rule's body at the numbers of its parameters
-abbrev pub within_rule : SubstRule → List ℤ → Scene → Scene
-within_rule rule numbers at = record { scope = at.scope; env = given rule.params numbers at.env }
+-- the scene of a rule's body: the numbers of the rule's own parameters, and else those of the kernel's
+abbrev pub within_rule : Env → SubstRule → List ℤ → Scene → Scene
+within_rule base rule numbers at = record { scope = at.scope; env = given rule.params numbers base }
 
 -- the points of a reduction in the kernel
 abbrev pub points_of : Kernel → List ℕ → Scene → List Scene
 points_of K = points_among every_number K.params K.rows
 
 -- a use of a rule is the rule's body at the numbers of its arguments; rules use each other at most as deep as there are rules
-abbrev pub rule_gathered : {A : Type 0} → Gather A → Option SubstRule → List Quasi → Scene → List A
-rule_gathered g None arguments at = []
-rule_gathered g (Some rule) arguments at = gathered g rule.body (within_rule rule (map (form_at at.env) arguments) at)
+abbrev pub rule_gathered : {A : Type 0} → Env → Gather A → Option SubstRule → List Quasi → Scene → List A
+rule_gathered base g None arguments at = []
+rule_gathered base g (Some rule) arguments at = gathered g rule.body (within_rule base rule (map (form_at at.env) arguments) at)
 
-abbrev pub gather_to : {A : Type 0} → Kernel → (Cell → List Quasi → Scene → List A) → (List ℕ → Scene → List Scene) → ℕ → Gather A
-gather_to K read points zero = record { read = read; call = λ rule arguments at. []; points = points }
-gather_to K read points (suc n) =
-    record { read = read; call = λ rule. rule_gathered (gather_to K read points n) (slice_get K.rules rule); points = points }
+abbrev pub gather_to : {A : Type 0} → Kernel → Env → (Cell → List Quasi → Scene → List A) → (List ℕ → Scene → List Scene) → ℕ → Gather A
+gather_to K base read points zero = record { read = read; call = λ rule arguments at. []; points = points }
+gather_to K base read points (suc n) =
+    record { read = read; call = λ rule. rule_gathered base (gather_to K base read points n) (slice_get K.rules rule); points = points }
 
 abbrev pub no_sense : Sense
 no_sense = record { first = None; has = λ k. false; at = λ k. word_of k (pos 0) }
 
-abbrev pub rule_meaning : World → Option SubstRule → List ℤ → Scene → Sense
-rule_meaning w None numbers at = no_sense
-rule_meaning w (Some rule) numbers at = meaning_of w rule.body (within_rule rule numbers at)
+abbrev pub rule_meaning : Env → World → Option SubstRule → List ℤ → Scene → Sense
+rule_meaning base w None numbers at = no_sense
+rule_meaning base w (Some rule) numbers at = meaning_of w rule.body (within_rule base rule numbers at)
 
-abbrev pub world_to : Kernel → Store → ℕ → World
-world_to K s zero = record { store = s; call = λ rule numbers at. no_sense; points = points_of K }
-world_to K s (suc n) = record { store = s; call = λ rule. rule_meaning (world_to K s n) (slice_get K.rules rule); points = points_of K }
+abbrev pub world_to : Kernel → Env → Store → ℕ → World
+world_to K base s zero = record { store = s; call = λ rule numbers at. no_sense; points = points_of K }
+world_to K base s (suc n) = record { store = s; call = λ rule. rule_meaning base (world_to K base s n) (slice_get K.rules rule); points = points_of K }
 
--- in which the expressions of the kernel are evaluated
-abbrev pub world_of : Kernel → Store → World
-world_of K s = world_to K s (length K.rules)
+-- in which the expressions of the kernel are evaluated under the arguments
+abbrev pub world_of : Kernel → Arguments → Store → World
+world_of K a s = world_to K (params_at K a) s (length K.rules)
 
 -- the arrays and temporaries that the instruction reads
 abbrev pub cells_read : Kernel → Insn → List Cell
 cells_read K A =
-    let g = gather_to K (λ cell place at. cell ∷ []) (λ inames at. at ∷ []) (length K.rules) in
+    let g = gather_to K (λ v. pos 0) (λ cell place at. cell ∷ []) (λ inames at. at ∷ []) (length K.rules) in
     let at : Scene = record { scope = []; env = λ v. pos 0 } in
     gathered_of_test g A.test at ++ gathered g A.value at
 
@@ -143,7 +143,7 @@ stored_spot K a x = spot_of K (scene_of K a x).env x.insn.cell (map (form_at (sc
 
 -- the cells that it reads
 abbrev pub reading : Kernel → Arguments → Instance → Gather Spot
-reading K a x = gather_to K (λ cell place at. spot_of K (scene_of K a x).env cell (map (form_at at.env) place) ∷ []) (points_of K) (length K.rules)
+reading K a x = gather_to K (params_at K a) (λ cell place at. spot_of K (scene_of K a x).env cell (map (form_at at.env) place) ∷ []) (points_of K) (length K.rules)
 
 abbrev pub read_spots : Kernel → Arguments → Instance → List Spot
 read_spots K a x = gathered_of_test (reading K a x) x.insn.test (scene_of K a x) ++ gathered (reading K a x) x.insn.value (scene_of K a x)
@@ -156,7 +156,7 @@ test_holds w (Some t) at k = (meaning_of_test w t at).holds k
 -- the word that it leaves in its cell, where the cell held w
 abbrev pub changed : Kernel → Arguments → Instance → Memory → Word → Word
 changed K a x m w =
-    let world = world_of K (sight_of K a x m) in
+    let world = world_of K a (sight_of K a x m) in
     let k = kind_of K x.insn.cell in
     if test_holds world x.insn.test (scene_of K a x) k
     then put_word x.insn.storing k w (low_bits k ((meaning_of world x.insn.value (scene_of K a x)).at k))

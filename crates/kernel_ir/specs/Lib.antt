@@ -1,0 +1,9 @@
+pub mod NameSpace
+pub mod Mentions
+pub mod Expanded
+pub mod Kinds
+pub mod Limits
+pub mod Valid
+pub mod Refusals
+pub mod Samples
+pub mod Laws

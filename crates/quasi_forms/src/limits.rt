@@ -1,0 +1,205 @@
+//! The limits of a form.
+ghost use Rattle.std.specs.Prelude.{◌≡◌, ◌≢◌, ◌≤◌, ◌<◌, ◌↔◌, ◌+◌, ◌-◌, ◌*◌, ◌^◌, ◌++◌, min, map, flat_map, sum, sum_by, length, take, All, IsTrue, IfOk, OnOk, Err, unsigned_abs};
+ghost use Rattle.affine_rows.specs.declared.quasi.Quasi.{out-Quasi};
+ghost use Rattle.affine_rows.specs.declared.quasi.Floor.{out-Floor};
+ghost use Rattle.affine_rows.specs.Forms.{ceil_div, sum_count, constant_count, IsSmall, IsFloor};
+ghost use Rattle.affine_rows.specs.Reach.{floor_sum, floor_constant};
+ghost use Rattle.quasi_forms.specs.Alike.{same_floor, distinct};
+ghost use Rattle.quasi_forms.specs.Limits.{floors_within, IsWithin};
+
+use crate::fault::FormFault;
+use crate::floors::{WideFloor, is_among};
+use affine_rows::{Floor, Form, Quasi};
+use std::alloc::{AllocError, Global};
+
+/// The most that a sum and a constant may be.
+const LARGEST: u64 = 1 << 62;
+
+/// The most that the factors of a form's floors may be together.
+const MOST_TIMES: u64 = 1 << 63;
+
+/// The most different floors that a form may have.
+const MOST_FLOORS: usize = 32;
+
+/// The sum and the constant of a form or a floor, 2^64 - 1 standing for all that is more.
+#[derive(Clone, Copy)]
+struct Counts {
+    sum: u64,
+    constant: u64,
+}
+
+impl Counts {
+    fn plus(self, other: Counts) -> Counts
+        ensures sum { result.sum ≡ min (self.sum + other.sum) (2 ^ 64 - 1) }
+        ensures constant { result.constant ≡ min (self.constant + other.constant) (2 ^ 64 - 1) }
+    {
+        Counts {
+            sum: self.sum.saturating_add(other.sum),
+            constant: self.constant.saturating_add(other.constant),
+        }
+    }
+}
+
+/// The sum of the absolute factors of the terms.
+fn terms_sum(terms: &[(u32, i64)]) -> u64
+    ensures { result ≡ min (sum_by (λ t. unsigned_abs t.1) terms.now) (2 ^ 64 - 1) }
+{
+    let mut sum = 0u64;
+    for term in terms {
+        sum = sum.saturating_add(term.1.unsigned_abs());
+    }
+    sum
+}
+
+/// The sum of the absolute factors of the floors.
+fn times_sum(floors: &[Floor]) -> u64
+    ensures { result ≡ min (sum_by (λ f. unsigned_abs (out-Floor f).times) floors.now) (2 ^ 64 - 1) }
+{
+    let mut sum = 0u64;
+    for floor in floors {
+        sum = sum.saturating_add(floor.times.unsigned_abs());
+    }
+    sum
+}
+
+/// The factor times the quotient, rounded up.
+fn weighed(times: u64, part: u64, by: u64) -> u64
+    requires positive { 0 < by }
+    ensures { result ≡ min (times * ceil_div part by) (2 ^ 64 - 1) }
+{
+    times.saturating_mul(part.div_ceil(by))
+}
+
+/// What a form counts.
+#[cycle(counts)]
+fn form_counts(form: &Quasi) -> Counts
+    requires { All IsFloor (out-Quasi form.now).floors }
+    ensures sum { result.sum ≡ min (sum_count form.now) (2 ^ 64 - 1) }
+    ensures constant { result.constant ≡ min (constant_count form.now) (2 ^ 64 - 1) }
+{
+    let own = Counts {
+        sum: terms_sum(form.terms.as_slice()),
+        constant: form.constant.unsigned_abs(),
+    };
+    own.plus(floors_counts(form.floors.as_slice()))
+}
+
+#[cycle(counts)]
+fn floors_counts(floors: &[Floor]) -> Counts
+    requires { All IsFloor floors.now }
+    ensures sum { result.sum ≡ min (sum (map floor_sum floors.now)) (2 ^ 64 - 1) }
+    ensures constant { result.constant ≡ min (sum (map floor_constant floors.now)) (2 ^ 64 - 1) }
+{
+    let mut counts = Counts {
+        sum: 0,
+        constant: 0,
+    };
+    for floor in floors {
+        counts = counts.plus(floor_counts(floor));
+    }
+    counts
+}
+
+/// What a floor counts: its absolute factor times what the form under it counts, divided and rounded up.
+#[cycle(counts)]
+fn floor_counts(floor: &Floor) -> Counts
+    requires { IsFloor floor.now }
+    ensures sum { result.sum ≡ min (floor_sum floor.now) (2 ^ 64 - 1) }
+    ensures constant { result.constant ≡ min (floor_constant floor.now) (2 ^ 64 - 1) }
+{
+    let inner = form_counts(&floor.inner);
+    let times = floor.times.unsigned_abs();
+    let by = floor.by.unsigned_abs();
+    Counts {
+        sum: weighed(times, inner.sum, by),
+        constant: weighed(times, inner.constant, by),
+    }
+}
+
+/// Whether the sum, the constant and the factors of the floors are within their limits.
+fn is_small(form: &Quasi) -> bool
+    requires { All IsFloor (out-Quasi form.now).floors }
+    ensures { IsTrue result ↔ IsSmall form.now }
+{
+    let counts = form_counts(form);
+    counts.sum <= LARGEST
+        && counts.constant <= LARGEST
+        && times_sum(form.floors.as_slice()) <= MOST_TIMES
+}
+
+/// Adds the floors of a form at the end of others, an inner floor before the floor round it.
+#[cycle(floors)]
+pub(crate) fn add_floors(
+    alloc: Global,
+    floors: &[Floor],
+    made: &mut Vec<WideFloor>,
+) -> Result<(), AllocError>
+    ensures { OnOk result (made.new.items ≡ made.old.items ++ flat_map floors_within floors.now) }
+{
+    for floor in floors {
+        add_floor(alloc, floor, made)?;
+    }
+    Ok(())
+}
+
+#[cycle(floors)]
+fn add_floor(alloc: Global, floor: &Floor, made: &mut Vec<WideFloor>) -> Result<(), AllocError>
+    ensures { OnOk result (made.new.items ≡ made.old.items ++ floors_within floor.now) }
+{
+    add_floors(alloc, floor.inner.floors.as_slice(), made)?;
+    made.push(WideFloor::multiple(alloc, 1, floor)?)?;
+    Ok(())
+}
+
+/// The count of different floors up to a place, from that of those before it.
+fn count_next(floors: &[WideFloor], at: usize, count: usize) -> usize
+    requires within { at < length floors.now }
+    requires before { count ≡ length (distinct same_floor (take at floors.now)) }
+    requires small { count ≤ at }
+    ensures value { result ≡ length (distinct same_floor (take (at + 1) floors.now)) }
+    ensures small { result ≤ at + 1 }
+{
+    let floor = &floors[at];
+    if is_among(&floors[..at], floor) {
+        return count;
+    }
+    count + 1
+}
+
+/// How many different floors there are.
+fn count_distinct(floors: &[WideFloor]) -> usize
+    ensures { result ≡ length (distinct same_floor floors.now) }
+{
+    let mut count = 0;
+    for at in 0..floors.len() {
+        count = count_next(floors, at, count);
+    }
+    count
+}
+
+/// Whether a form over floors within the limits is within the limits.
+fn is_within(alloc: Global, form: &Quasi) -> Result<bool, AllocError>
+    requires { All IsFloor (out-Quasi form.now).floors }
+    ensures { IfOk result (λ b. IsTrue b ↔ IsWithin form.now) }
+{
+    if !is_small(form) {
+        return Ok(false);
+    }
+    let mut floors = Vec::new(alloc);
+    add_floors(alloc, form.floors.as_slice(), &mut floors)?;
+    Ok(count_distinct(&floors) <= MOST_FLOORS)
+}
+
+/// The form, where it is within the limits.
+pub(crate) fn limited(alloc: Global, quasi: Quasi) -> Result<Form, FormFault>
+    requires { All IsFloor (out-Quasi quasi).floors }
+    ensures form { IfOk result (λ f. f ≡ quasi) }
+    ensures within { OnOk result (IsWithin quasi) }
+    ensures limit { result ≡ Err FormFault.Limit → IsWithin quasi → ⊥ }
+    ensures affine { result ≢ Err FormFault.NotAffine }
+{
+    if !is_within(alloc, &quasi)? {
+        return Err(FormFault::Limit);
+    }
+    Ok(Form::new(quasi))
+}

@@ -1,0 +1,9 @@
+pub mod Covering
+pub mod CaseSystems
+pub mod Integers
+pub mod Opening
+pub mod Implying
+pub mod Halving
+pub mod Hulls
+pub mod Alone
+pub mod Inside

@@ -1,0 +1,5 @@
+pub mod Cases
+pub mod Verdicts
+pub mod Implications
+pub mod Bounding
+pub mod Hulls

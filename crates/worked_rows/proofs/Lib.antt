@@ -1,0 +1,12 @@
+pub mod Turns
+pub mod Values
+pub mod Spots
+pub mod Meeting
+pub mod Domains
+pub mod Rising
+pub mod Ranges
+pub mod TwoWriters
+pub mod Update
+pub mod EmptySum
+pub mod Temporary
+pub mod RuleUses
