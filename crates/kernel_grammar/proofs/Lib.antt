@@ -1,0 +1,3 @@
+mod SampleTrees
+mod LoneWords
+mod WholeLines

@@ -1,0 +1,11 @@
+pub mod Words
+pub mod Lexicals
+pub mod Trees
+pub mod Spelling
+pub mod Steps
+pub mod Lines
+pub mod Syntax
+pub mod Files
+pub mod Faults
+pub mod Samples
+pub mod Laws
