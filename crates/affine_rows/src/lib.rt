@@ -30,6 +30,3 @@ pub use quasi::{Floor, Quasi};
 pub use row::{Row, System};
 pub use terms::Terms;
 pub use value::value_at;
-
-#[cfg(test)]
-mod tests;

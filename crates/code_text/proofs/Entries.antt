@@ -1,7 +1,7 @@
 -- A signature with entries, and one without.
 use Rattle.std.proofs.Common.{◌≡◌, ◌+◌, ◌<◌, List, [], ◌∷◌, ◌++◌, length, map, true, codes, refl, arith}
 use Rattle.code_tree.specs.declared.code.Code.{Code}
-use Rattle.code_text.specs.Bytes.{Bytes, separated}
+use Rattle.text_writer.specs.Bytes.{Bytes, separated}
 use Rattle.code_text.specs.SignatureText.{list_of, entries_of, arguments_text, param_text, array_text}
 
 void_list : {A B : Type 0} (f : A → Bytes) (g : B → Bytes) (xs : List A) (ys : List B) → length xs + length ys ≡ 0 → list_of (map f xs ++ map g ys) ≡ codes "void"

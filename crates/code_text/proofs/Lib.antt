@@ -1,4 +1,3 @@
-pub mod Digits
 pub mod Entries
 pub mod Lists
 pub mod Pieces

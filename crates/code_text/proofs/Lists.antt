@@ -1,16 +1,8 @@
 -- Texts that are written turn by turn.
 use Rattle.std.proofs.Common.{◌≡◌, ℕ, zero, suc, ◌+◌, ◌-◌, ◌*◌, ◌<◌, ◌≤◌, min, List, [], ◌∷◌, ◌++◌, length, map, drop, get_or, codes, refl, sym, ap, subst, ◌∙◌, append_assoc, append-nil, add-one, drop-cons, drop_of_length-le, length-drop, length-append, arith}
 use Rattle.std.proofs.lemmas.List.{length-map}
-use Rattle.code_text.specs.Bytes.{Bytes, repeated, in_round}
+use Rattle.text_writer.specs.Bytes.{Bytes, repeated, in_round}
 use Rattle.code_text.specs.BoundText.{list_text, horner_text, places_text, turn_text}
-
--- what is written goes on by a part of what was left
-pub advance : (o p t r q x : Bytes) → o ++ r ≡ x → r ≡ t ++ q → p ≡ o ++ t → p ++ q ≡ x
-advance o p t r q x h e w = rw w (append_assoc o t q ∙ ap (λ (z : Bytes). o ++ z) (sym e) ∙ h)
-
--- one turn of `put_repeated`
-pub repeated_step : (text : Bytes) (n i : ℕ) → i < n → repeated text (n - i) ≡ text ++ repeated text (n - (i + 1))
-repeated_step text n i l = let e : n - i ≡ suc (n - (i + 1)) = omega arith in rw e refl
 
 -- one turn of `write_list`
 pub list_step : (call b : Bytes) (bs : List Bytes) (n : ℕ) → 0 < length bs
@@ -94,8 +86,3 @@ begun o p q a b rest x e1 e2 h = rw (e2, e1, append_assoc) (rw append_assoc (ap 
 -- nothing is left
 pub ended : (o rest x : Bytes) → o ++ rest ≡ x → rest ≡ [] → o ≡ x
 ended o rest x h e = sym (append-nil o) ∙ ap (λ (z : Bytes). o ++ z) (sym e) ∙ h
-
--- blanks that were written are few
-pub length-repeated : (text : Bytes) (n : ℕ) → length (repeated text n) ≡ n * length text
-length-repeated text zero = omega arith
-length-repeated text (suc n) = omega (arith, length-append text (repeated text n), length-repeated text n)

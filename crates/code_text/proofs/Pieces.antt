@@ -1,6 +1,6 @@
 -- Pieces written one after the other.
 use Rattle.std.proofs.Common.{◌≡◌, ◌++◌, append_assoc}
-use Rattle.code_text.specs.Bytes.{Bytes}
+use Rattle.text_writer.specs.Bytes.{Bytes}
 
 pub three : (o o1 o2 o3 a b c : Bytes) → o1 ≡ o ++ a → o2 ≡ o1 ++ b → o3 ≡ o2 ++ c → o3 ≡ o ++ (a ++ b ++ c)
 three o o1 o2 o3 a b c e1 e2 e3 = rw (e3, e2, e1) (simp append_assoc)

@@ -10,9 +10,9 @@ use Rattle.code_tree.specs.declared.code.Block.{Block}
 use Rattle.code_tree.specs.declared.code.Code.{Code}
 use Rattle.code_tree.specs.declared.code.Stmt.{the_lemmas}
 use Rattle.code_tree.specs.declared.code.Stmt.TheVariants as stmt
-use Rattle.code_text.specs.Bytes.{Bytes}
+use Rattle.text_writer.specs.Bytes.{Bytes}
 use Rattle.code_text.specs.StatementText.{lines_of, lines_of_stmt, blanks, inside_text, guard_text, check_text, set_text, asked_kind, barrier_text}
-use Rattle.code_text.proofs.Lists.{length-repeated}
+use Rattle.text_writer.proofs.Lists.{length-repeated}
 
 pub lines-When : (code : Code) (rows : List QuasiRow) (body : Block) (depth : ℕ)
     → (lines_of_stmt code (stmt.When rows body)).at depth ≡ blanks depth ++ guard_text code rows ++ inside_text (lines_of code body).at depth

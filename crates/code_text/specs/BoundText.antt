@@ -3,7 +3,7 @@ use Rattle.std.specs.Prelude.{ℕ, List, [], ◌∷◌, ◌++◌, map, codes}
 use Rattle.code_tree.specs.declared.code.Bound.{Bound, Bound-F, fold-Bound}
 use Rattle.code_tree.specs.declared.code.Flat.{Flat}
 use Rattle.code_tree.specs.declared.code.Flat.TheVariants as flat
-use Rattle.code_text.specs.Bytes.{Bytes, in_round}
+use Rattle.text_writer.specs.Bytes.{Bytes, in_round}
 use Rattle.code_text.specs.FormText.{form_text, quotient_text}
 
 -- the least or the greatest of a list, two at a time

@@ -4,7 +4,7 @@ use Rattle.wrap_words.specs.declared.kind.Kind.{Kind}
 use Rattle.wrap_words.specs.declared.kind.Kind.TheVariants.{I32, I64, U32, U64}
 use Rattle.code_tree.specs.declared.code.Target.{Target}
 use Rattle.code_tree.specs.declared.code.Target.TheVariants.{C, OpenCl}
-use Rattle.code_text.specs.Bytes.{Bytes, in_round}
+use Rattle.text_writer.specs.Bytes.{Bytes, in_round}
 
 abbrev pub type_text : Target → Kind → Bytes
 type_text C I32 = codes "int32_t"

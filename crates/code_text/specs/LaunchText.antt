@@ -7,8 +7,8 @@ use Rattle.code_tree.specs.declared.code.Bound.{Bound, Bound-F, out-Bound}
 use Rattle.code_tree.specs.declared.code.Code.{Code}
 use Rattle.code_tree.specs.declared.code.Target.{Target}
 use Rattle.code_tree.specs.declared.code.Target.TheVariants.{C, OpenCl}
-use Rattle.code_text.specs.Bytes.{Bytes}
-use Rattle.code_text.specs.FormText.{number_text}
+use Rattle.text_writer.specs.Bytes.{Bytes}
+use Rattle.text_writer.specs.NumberText.{number_text}
 use Rattle.code_text.specs.BoundText.{bound_text}
 use Rattle.code_text.specs.Names.{name_text}
 

@@ -1,4 +1,3 @@
-pub mod Bytes
 pub mod KindText
 pub mod FormText
 pub mod BoundText

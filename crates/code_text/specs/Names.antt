@@ -3,7 +3,7 @@ use Rattle.std.specs.Prelude.{ℕ, ◌-◌, Bool, false, ◌&&◌, nat_le, nat_l
 use Rattle.code_tree.specs.declared.code.Code.{Code}
 use Rattle.code_tree.specs.declared.code.Target.{Target}
 use Rattle.code_tree.specs.declared.code.Target.TheVariants.{C, OpenCl}
-use Rattle.code_text.specs.Bytes.{Bytes}
+use Rattle.text_writer.specs.Bytes.{Bytes}
 
 -- the axes of OpenCL: three of groups, three of items in a group
 abbrev pub axis_text : ℕ → Bytes

@@ -4,7 +4,7 @@ use Rattle.wrap_words.specs.declared.kind.Kind.{Kind}
 use Rattle.wrap_words.specs.declared.kind.Kind.TheVariants.{I32, I64, U32, U64}
 use Rattle.code_tree.specs.declared.code.Target.{Target}
 use Rattle.code_tree.specs.declared.code.Target.TheVariants.{C, OpenCl}
-use Rattle.code_text.specs.Bytes.{Bytes}
+use Rattle.text_writer.specs.Bytes.{Bytes}
 use Rattle.code_text.specs.KindText.{type_text, suffix_text, index_text}
 
 -- a function's own word, its type and its name, and two arguments of that type

@@ -4,7 +4,7 @@ use Rattle.code_tree.specs.declared.code.CodeArray.{CodeArray}
 use Rattle.code_tree.specs.declared.code.Code.{Code}
 use Rattle.code_tree.specs.declared.code.Target.{Target}
 use Rattle.code_tree.specs.declared.code.Target.TheVariants.{C, OpenCl}
-use Rattle.code_text.specs.Bytes.{Bytes, separated}
+use Rattle.text_writer.specs.Bytes.{Bytes, separated}
 use Rattle.code_text.specs.KindText.{type_text, index_text}
 use Rattle.code_text.specs.Names.{name_text}
 

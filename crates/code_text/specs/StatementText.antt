@@ -16,7 +16,7 @@ use Rattle.code_tree.specs.declared.code.Block.{Block, fold-Block}
 use Rattle.code_tree.specs.declared.code.Stmt.{Stmt, fold-Stmt}
 use Rattle.code_tree.specs.declared.code.Stmt.TheOpen.{Block-F, Stmt-F}
 use Rattle.code_tree.specs.Cells.{kind_in}
-use Rattle.code_text.specs.Bytes.{Bytes, in_square, repeated, separated}
+use Rattle.text_writer.specs.Bytes.{Bytes, in_square, repeated, separated}
 use Rattle.code_text.specs.KindText.{type_text, index_text}
 use Rattle.code_text.specs.FormText.{form_text}
 use Rattle.code_text.specs.BoundText.{bound_text}

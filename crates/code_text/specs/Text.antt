@@ -1,7 +1,7 @@
 -- The text of a code: the one spelling of it for its target.
 use Rattle.std.specs.Prelude.{◌++◌, codes}
 use Rattle.code_tree.specs.declared.code.Code.{Code}
-use Rattle.code_text.specs.Bytes.{Bytes}
+use Rattle.text_writer.specs.Bytes.{Bytes}
 use Rattle.code_text.specs.StatementText.{lines_of}
 use Rattle.code_text.specs.PreludeText.{prelude_text}
 use Rattle.code_text.specs.SignatureText.{signature_text}

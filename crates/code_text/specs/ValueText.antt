@@ -22,7 +22,7 @@ use Rattle.code_tree.specs.declared.code.CodeArray.{CodeArray}
 use Rattle.code_tree.specs.declared.code.Code.{Code}
 use Rattle.code_tree.specs.declared.code.Target.{Target}
 use Rattle.code_tree.specs.Cells.{cells_of, kind_in}
-use Rattle.code_text.specs.Bytes.{Bytes, in_round, in_square}
+use Rattle.text_writer.specs.Bytes.{Bytes, in_round, in_square}
 use Rattle.code_text.specs.KindText.{suffix_text, unsigned_kind, cast_text}
 use Rattle.code_text.specs.FormText.{form_text}
 use Rattle.code_text.specs.BoundText.{flat_text}

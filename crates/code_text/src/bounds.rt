@@ -1,15 +1,15 @@
 //! Bounds and subscripts.
 ghost use Rattle.std.specs.Prelude.{◌≡◌, ◌++◌, OnOk, map, codes};
-ghost use Rattle.code_text.specs.Bytes.{in_round};
+ghost use Rattle.text_writer.specs.Bytes.{in_round};
 ghost use Rattle.code_text.specs.FormText.{form_text, quotient_text};
 ghost use Rattle.code_text.specs.BoundText.{bound_text, list_text, places_text, turn_text, flat_text};
 ghost use Rattle.code_text.specs.Names.{name_text};
 
 use crate::forms::write_form;
-use crate::put::{put, put_number, put_repeated};
 use affine_rows::Form;
 use code_tree::{Bound, Code, Flat};
 use std::alloc::AllocError;
+use text_writer::{put, put_number, put_repeated};
 
 /// Adds a form divided by a number and rounded down.
 fn write_quotient(out: &mut Vec<u8>, code: &Code, form: &Form, by: i64) -> Result<(), AllocError>

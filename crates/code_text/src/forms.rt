@@ -1,13 +1,14 @@
 //! Index forms.
 ghost use Rattle.std.specs.Prelude.{◌≡◌, ◌++◌, OnOk};
-ghost use Rattle.code_text.specs.FormText.{part_text, term_part, floor_part, form_text};
+ghost use Rattle.text_writer.specs.NumberText.{part_text};
+ghost use Rattle.code_text.specs.FormText.{term_part, floor_part, form_text};
 ghost use Rattle.code_text.specs.Names.{name_text};
 
 use crate::names::write_name;
-use crate::put::{put, put_constant, put_factor, put_number, put_sign};
 use affine_rows::{Floor, Quasi};
 use code_tree::Code;
 use std::alloc::AllocError;
+use text_writer::{put, put_constant, put_factor, put_number, put_sign};
 
 /// Adds a term as a part of a sum.
 fn write_term(

@@ -2,9 +2,9 @@
 ghost use Rattle.std.specs.Prelude.{◌≡◌, ◌++◌, OnOk};
 ghost use Rattle.code_text.specs.KindText.{type_text, unsigned_kind, suffix_text, index_text, cast_text};
 
-use crate::put::put;
 use code_tree::Target;
 use std::alloc::AllocError;
+use text_writer::put;
 use wrap_words::Kind;
 
 /// The name of a type.

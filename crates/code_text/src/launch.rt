@@ -5,9 +5,9 @@ ghost use Rattle.code_text.specs.Names.{name_text};
 ghost use Rattle.code_text.specs.LaunchText.{bound_number, launch_number, group_text, groups_text, items_text, all_items, launch_text, title_text};
 
 use crate::bounds::write_bound;
-use crate::put::{put, put_digits, put_next};
 use code_tree::{Bound, Code, Target};
 use std::alloc::AllocError;
+use text_writer::{put, put_digits, put_next};
 
 /// The number of a bound that is one.
 fn plain_number(bound: &Bound) -> Option<i64>

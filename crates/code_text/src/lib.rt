@@ -9,7 +9,6 @@ mod launch;
 mod names;
 mod opening;
 mod prelude;
-mod put;
 mod signature;
 mod spelling;
 mod statements;

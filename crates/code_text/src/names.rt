@@ -2,9 +2,9 @@
 ghost use Rattle.std.specs.Prelude.{◌≡◌, ◌++◌, OnOk, length};
 ghost use Rattle.code_text.specs.Names.{axis_text, is_axis, name_text};
 
-use crate::put::put;
 use code_tree::{Code, Target};
 use std::alloc::AllocError;
+use text_writer::put;
 
 /// The spelling of an axis: groups 0 to 2, then items 0 to 2.
 fn axis(number: usize) -> &'static str

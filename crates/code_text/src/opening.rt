@@ -2,10 +2,10 @@
 ghost use Rattle.std.specs.Prelude.{◌≡◌, ◌++◌, OnOk};
 ghost use Rattle.code_text.specs.OpeningText.{axis_line, axis_lines, local_line, local_lines};
 
-use crate::put::put;
 use crate::statements::{write_blanks, write_declared};
 use code_tree::{CodeCell, Target};
 use std::alloc::AllocError;
+use text_writer::put;
 
 /// Adds the line of an axis.
 fn write_axis(out: &mut Vec<u8>, name: &str, call: &str) -> Result<(), AllocError>

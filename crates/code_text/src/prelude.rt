@@ -3,9 +3,9 @@ ghost use Rattle.std.specs.Prelude.{◌≡◌, ◌++◌, OnOk};
 ghost use Rattle.code_text.specs.PreludeText.{static_text, head_text, floor_line, pair_lines, kind_pair, prelude_text};
 
 use crate::kinds::{index_name, type_name};
-use crate::put::put;
 use code_tree::Target;
 use std::alloc::AllocError;
+use text_writer::put;
 use wrap_words::Kind;
 
 /// Adds the head of a function of two numbers.

@@ -1,13 +1,13 @@
 //! The signature of a code.
 ghost use Rattle.std.specs.Prelude.{◌≡◌, ◌++◌, ◌+◌, ◌↔◌, OnOk, IsTrue, length, true, codes};
-ghost use Rattle.code_text.specs.Bytes.{separated};
+ghost use Rattle.text_writer.specs.Bytes.{separated};
 ghost use Rattle.code_text.specs.SignatureText.{param_text, qualifiers_text, array_text, entries_of, arguments_text, kernel_text, signature_text};
 
 use crate::kinds::{index_name, type_name};
 use crate::names::write_name;
-use crate::put::{put, put_gap};
 use code_tree::{Code, CodeArray, Target};
 use std::alloc::AllocError;
+use text_writer::{put, put_gap};
 
 /// Adds a parameter.
 fn write_param(out: &mut Vec<u8>, code: &Code, var: u32) -> Result<(), AllocError>

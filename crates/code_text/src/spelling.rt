@@ -7,11 +7,11 @@ ghost use Rattle.code_text.specs.Names.{name_text};
 ghost use Rattle.code_text.specs.ValueText.{store_text, subscript_text, place_text};
 
 use crate::bounds::write_flat;
-use crate::put::put;
 use affine_rows::Form;
 use code_tree::{Code, CodeCell, Flat};
 use expr_tree::Cell;
 use std::alloc::AllocError;
+use text_writer::put;
 use wrap_words::Kind;
 
 /// A code with its cells in text order.

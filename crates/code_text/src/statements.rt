@@ -8,12 +8,12 @@ use crate::bounds::write_bound;
 use crate::forms::write_form;
 use crate::kinds::{index_name, type_name};
 use crate::names::write_name;
-use crate::put::{put, put_digits, put_gap, put_repeated};
 use crate::spelling::{Spelling, store_kind, write_store, write_subscript};
 use crate::values::{write_test, write_value};
 use code_tree::{Block, Bound, Code, CodeCell, Flat, QuasiRow, Stmt, Target};
 use expr_tree::{Cell, Expr, Test};
 use std::alloc::AllocError;
+use text_writer::{put, put_digits, put_gap, put_repeated};
 use wrap_words::Kind;
 
 /// Adds the blanks before a line.

@@ -9,12 +9,12 @@ ghost use Rattle.code_text.specs.ValueText.{literal_text, leaf_of, side_kind, wr
 
 use crate::forms::write_form;
 use crate::kinds::{put_cast, suffix, unsigned};
-use crate::put::{put, put_digits};
 use crate::spelling::{Spelling, store_kind, write_place, write_store};
 use affine_rows::Form;
 use code_tree::{Code, Target};
 use expr_tree::{Expr, Node, Op, Rel, Test};
 use std::alloc::AllocError;
+use text_writer::{put, put_digits};
 use wrap_words::{Kind, of_number};
 
 /// The rest of a number modulo 2^width.

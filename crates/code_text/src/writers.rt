@@ -7,12 +7,12 @@ use crate::cells::list_cells;
 use crate::launch::write_title;
 use crate::opening::{write_axes, write_locals};
 use crate::prelude::write_prelude;
-use crate::put::put;
 use crate::signature::write_signature;
 use crate::spelling::Spelling;
 use crate::statements::write_block;
 use code_tree::Code;
 use std::alloc::{AllocError, Global};
+use text_writer::put;
 
 /// The text of a code for its target, in one pass.
 fn write_text(alloc: Global, code: &Code) -> Result<Vec<u8>, AllocError>

@@ -19,8 +19,3 @@ pub use fault::SetFault;
 pub use finding::{Found, find_point};
 pub use projection::shadow;
 pub use stages::stage;
-
-#[cfg(test)]
-mod point_tests;
-#[cfg(test)]
-mod tests;

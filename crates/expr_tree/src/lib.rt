@@ -22,6 +22,3 @@ pub use shared::Shared;
 pub use sight::Sight;
 pub use steps::Steps;
 pub use tree::{Cell, Expr, Node, Op, Rel, Test};
-
-#[cfg(test)]
-mod tests;

@@ -15,6 +15,3 @@ pub use codes::code_of;
 pub use fault::FormFault;
 pub use form::FirstForm;
 pub use reader::read_form;
-
-#[cfg(test)]
-mod tests;

@@ -14,6 +14,3 @@ pub use expr_tree::QuasiRow;
 pub use fault::{Fault, Refusal, Site};
 pub use kernel::{Array, Iname, Insn, Kernel, Storing, SubstRule, Tag, Temp};
 pub use variables::MAX_NAMES;
-
-#[cfg(test)]
-mod tests;

@@ -7,6 +7,3 @@ mod lines;
 mod words;
 
 pub use call::top;
-
-#[cfg(test)]
-mod tests;

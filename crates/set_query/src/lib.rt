@@ -17,6 +17,3 @@ pub use pair::{Differ, Pair};
 pub use spanning::hull;
 pub use splitting::cases;
 pub use verdict::{Verdict, excluded};
-
-#[cfg(test)]
-mod tests;

@@ -8,5 +8,3 @@
 
 pub mod additions;
 pub mod laws;
-#[cfg(test)]
-mod tests;

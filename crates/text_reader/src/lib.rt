@@ -23,6 +23,3 @@ pub use numbers::number_of;
 pub use place::Place;
 pub use scanner::scan;
 pub use token::{Class, Token};
-
-#[cfg(test)]
-mod tests;

@@ -12,8 +12,6 @@ mod convert;
 mod kind;
 mod law;
 mod order;
-#[cfg(test)]
-mod tests;
 
 pub use arithmetic::{add, floor_div, mul, neg, sub};
 pub use bits::{bit_and, bit_not, bit_or, bit_xor, shift_left, shift_right};

@@ -4,7 +4,8 @@ use Rattle.std.proofs.lemmas.Grind.{common_steps}
 use Rattle.std.proofs.lemmas.Result.{on_ok_weaker}
 use Rattle.code_text.specs.Names.{name_text}
 use Rattle.code_text.specs.BoundText.{bound_text}
-use Rattle.code_text.proofs.Lists.{advance, list_turn, list_last, closed}
+use Rattle.text_writer.proofs.Lists.{advance}
+use Rattle.code_text.proofs.Lists.{list_turn, list_last, closed}
 use Rattle.code_text.proofs.Pieces.{four}
 use Rattle.code_text.proofs.bounds.+bound.Goals as goal
 

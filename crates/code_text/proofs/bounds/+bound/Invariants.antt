@@ -1,6 +1,6 @@
 -- What is written, the bounds that are left and the parentheses that are open make the whole list.
 use Rattle.std.proofs.Common.{◌≡◌, ◌++◌, map, drop, codes}
-use Rattle.code_text.specs.Bytes.{repeated}
+use Rattle.text_writer.specs.Bytes.{repeated}
 use Rattle.code_text.specs.BoundText.{bound_text, list_text}
 use Rattle.code_text.specs.Names.{name_text}
 use Rattle.code_text.proofs.bounds.+bound.Given as goal

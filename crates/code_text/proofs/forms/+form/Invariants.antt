@@ -1,7 +1,8 @@
 -- What is written, followed by what is left of the sum, is the whole sum.
 use Rattle.std.proofs.Common.{◌≡◌, ◌++◌, drop, map}
 use Rattle.affine_rows.specs.declared.quasi.Quasi.{out-Quasi}
-use Rattle.code_text.specs.FormText.{sum_text, term_part, floor_part, form_text}
+use Rattle.text_writer.specs.NumberText.{sum_text}
+use Rattle.code_text.specs.FormText.{term_part, floor_part, form_text}
 use Rattle.code_text.specs.Names.{name_text}
 use Rattle.code_text.proofs.forms.+form.Given as goal
 

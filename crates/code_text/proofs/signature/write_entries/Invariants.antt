@@ -1,6 +1,6 @@
 -- What is written, followed by what is left, is the whole list.
 use Rattle.std.proofs.Common.{◌≡◌, ◌++◌, drop, map, codes, true}
-use Rattle.code_text.specs.Bytes.{separated}
+use Rattle.text_writer.specs.Bytes.{separated}
 use Rattle.code_text.specs.SignatureText.{param_text, array_text, entries_of}
 use Rattle.code_text.proofs.signature.write_entries.Given as goal
 

@@ -1,6 +1,6 @@
 -- What is written, followed by the rows that are left, is all rows.
 use Rattle.std.proofs.Common.{◌≡◌, ◌++◌, drop, map, codes}
-use Rattle.code_text.specs.Bytes.{separated}
+use Rattle.text_writer.specs.Bytes.{separated}
 use Rattle.code_text.specs.Names.{name_text}
 use Rattle.code_text.specs.StatementText.{row_text, rows_text}
 use Rattle.code_text.proofs.statements.write_rows.Given as goal

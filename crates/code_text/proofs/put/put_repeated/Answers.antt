@@ -1,6 +1,0 @@
--- Each turn writes the text once.
-use Rattle.code_text.proofs.Lists.{advance, repeated_step}
-use Rattle.code_text.proofs.put.put_repeated.Goals as goal
-
-pub loop-preserved : goal.loop-preserved
-loop-preserved c = let turn = repeated_step c.args.text.now c.args.count c.loop.counter c.loop-test.true in advance _ _ _ _ _ _ c.loop.invariant turn c.in_ok-put.ensures

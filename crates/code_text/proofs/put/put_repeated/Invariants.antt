@@ -1,7 +1,0 @@
--- What is written, followed by the times that are left, is the whole.
-use Rattle.std.proofs.Common.{◌≡◌, ◌-◌, ◌++◌}
-use Rattle.code_text.specs.Bytes.{repeated}
-use Rattle.code_text.proofs.put.put_repeated.Given as goal
-
-abbrev pub invariant-loop : goal.invariant-loop
-invariant-loop l = l.out.items ++ repeated l.text (l.count - l.counter) ≡ l.fn.out.items ++ repeated l.text l.count

@@ -1,0 +1,6 @@
+pub mod Spelling
+pub mod FormText
+pub mod Spelled
+pub mod ValueText
+pub mod Standing
+pub mod KernelText

@@ -1,0 +1,11 @@
+//! Kernels as texts: a kernel file, with what such a file cannot say in comments.
+#![tactic(auto)]
+
+mod forms;
+mod instructions;
+mod lines;
+mod spelling;
+mod values;
+mod whole;
+
+pub use whole::print_kernel;
