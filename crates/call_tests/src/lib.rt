@@ -6,6 +6,8 @@ mod first_kernels;
 #[cfg(test)]
 mod hosts;
 #[cfg(test)]
+mod index_forms;
+#[cfg(test)]
 mod jobs;
 #[cfg(test)]
 mod kernels;

@@ -1,9 +1,9 @@
 -- Collected floors: the first of those that are alike, one floor after the other.
-use Rattle.std.proofs.Common.{◌≡◌, ℕ, ◌+◌, ◌<◌, ◌≤◌, ℤ, pos, ◌+ℤ◌, Bool, true, false, not, cond, ◌&&◌, ◌||◌, List, [], ◌∷◌, ◌++◌, map, length, take, drop, get_or, arith, refl, sym, ap, ap₂, ◌∙◌, subst, unsigned_abs, sum_by, append_assoc, append-nil}
-use Rattle.std.specs.List.{filter, list_any, list_all}
+use Rattle.std.proofs.Common.{◌≡◌, ℕ, ◌+◌, ◌<◌, ◌≤◌, length-drop, ℤ, pos, ◌+ℤ◌, Bool, true, false, not, cond, ◌&&◌, ◌||◌, List, [], ◌∷◌, ◌++◌, map, length, take, drop, get_or, arith, refl, sym, ap, ap₂, ◌∙◌, subst, unsigned_abs, sum_by, append_assoc, append-nil}
+use Rattle.std.specs.List.{filter, list_any, list_all, position_or_len}
 use Rattle.std.specs.Ordering.{int_eq}
 use Rattle.std.proofs.lemmas.Int.{ints}
-use Rattle.std.proofs.lemmas.List.Sums.{sum_by_push, sum_by-take-le}
+use Rattle.std.proofs.lemmas.List.Sums.{sum_by_push}
 use Rattle.std.proofs.lemmas.Bool.Decides.{Decides-int_eq}
 use Rattle.std.proofs.lemmas.List.{take_more, take_all, take-append-drop, length-append}
 use Rattle.affine_rows.specs.declared.quasi.Floor.{Floor, out-Floor, out-roll-Floor}
@@ -177,12 +177,6 @@ small_next fs i f g sum r made within is like unlike small m =
     let all = ap (sum_by (λ (x : Floor). unsigned_abs (out-Floor x).times)) (take_next fs i g within is) in
     omega (arith, all, sum_by_push (λ (x : Floor). unsigned_abs (out-Floor x).times) (take i fs) g, size-next f g r like unlike, small, m)
 
-pub small_part : (fs : List Floor) (i : ℕ) (f g : Floor) (sum r : ℤ) → i < length fs → g ≡ get_or fs i g → (same_floor f g ≡ true → r ≡ (out-Floor g).times) → (same_floor f g ≡ false → r ≡ pos 0) →
-    unsigned_abs sum ≤ sum_by (λ x. unsigned_abs (out-Floor x).times) (take i fs) → unsigned_abs sum + unsigned_abs r ≤ sum_by (λ x. unsigned_abs (out-Floor x).times) fs
-small_part fs i f g sum r within is like unlike small =
-    let all = ap (sum_by (λ (x : Floor). unsigned_abs (out-Floor x).times)) (take_next fs i g within is) in
-    omega (arith, all, sum_by_push (λ (x : Floor). unsigned_abs (out-Floor x).times) (take i fs) g, size-next f g r like unlike, small, sum_by-take-le (λ (x : Floor). unsigned_abs (out-Floor x).times) fs (i + 1))
-
 -- a factor that does not fit is not 0
 pub wide_some : (z : ℤ) → fits_entry z ≡ false → int_eq z (pos 0) ≡ false
 unfolding fits_entry
@@ -240,3 +234,20 @@ pub count_new : (fs : List Floor) (i : ℕ) (g : Floor) → i < length fs → g 
 count_new fs i g within is among =
     let more = ap (λ (xs : List Floor). length (distinct same_floor xs)) (take_next fs i g within is) ∙ ap (λ (xs : List Floor). length xs) (distinct-new same_floor (take i fs) g (sym among)) in
     omega (arith, more, length-append (distinct same_floor (take i fs)) (g ∷ []))
+
+-- ---- those that are different
+
+pub first_again : (fs : List Floor) (i : ℕ) (g : Floor) (made : List Floor) → i < length fs → g ≡ get_or fs i g → true ≡ list_any (λ x. same_floor x g) (take i fs) → made ≡ distinct same_floor (take i fs) → made ≡ distinct same_floor (take (i + 1) fs)
+first_again fs i g made within is among m = m ∙ sym (ap (distinct same_floor) (take_next fs i g within is) ∙ distinct-again same_floor (take i fs) g (sym among))
+
+pub first_new : (fs : List Floor) (i : ℕ) (g f : Floor) (old made : List Floor) → i < length fs → g ≡ get_or fs i g → false ≡ list_any (λ x. same_floor x g) (take i fs) → old ≡ distinct same_floor (take i fs) → f ≡ g → made ≡ old ++ f ∷ [] → made ≡ distinct same_floor (take (i + 1) fs)
+first_new fs i g f old made within is among m same pushed =
+    pushed ∙ (ap₂ (λ (xs : List Floor) (x : Floor). xs ++ x ∷ []) m same ∙ sym (ap (distinct same_floor) (take_next fs i g within is) ∙ distinct-new same_floor (take i fs) g (sym among)))
+
+none_left : (p : Floor → Bool) (fs : List Floor) → length fs ≡ 0 → position_or_len p fs ≡ 0
+none_left p [] h = refl
+none_left p (f ∷ fs) h = absurd (omega arith)
+
+-- no place is left
+pub no_place : (p : Floor → Bool) (fs : List Floor) (i : ℕ) → i ≤ length fs → length fs ≤ i → i + position_or_len p (drop i fs) ≡ position_or_len p fs → length fs ≡ position_or_len p fs
+no_place p fs i low high same = let none = none_left p (drop i fs) (omega (arith, length-drop i fs)) in omega arith

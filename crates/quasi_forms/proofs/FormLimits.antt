@@ -16,7 +16,7 @@ use Rattle.quasi_forms.specs.Alike.{same_floor, distinct}
 
 -- ---- the equations of what forms and floors count
 
-sum_count-out : (q : Quasi) → sum_count q ≡ sum_by (λ t. unsigned_abs t.1) (out-Quasi q).terms + sum (map floor_sum (out-Quasi q).floors)
+pub sum_count-out : (q : Quasi) → sum_count q ≡ sum_by (λ t. unsigned_abs t.1) (out-Quasi q).terms + sum (map floor_sum (out-Quasi q).floors)
 sum_count-out = fold_out-Quasi ℕ ℕ counted_floor sum_step
 
 pub constant_count-out : (q : Quasi) → constant_count q ≡ unsigned_abs (out-Quasi q).constant + sum (map floor_constant (out-Quasi q).floors)
@@ -25,7 +25,7 @@ constant_count-out = fold_out-Quasi ℕ ℕ counted_floor constant_step
 floor_sum-out : (f : Floor) → floor_sum f ≡ unsigned_abs (out-Floor f).times * ceil_div (sum_count (out-Floor f).inner) (unsigned_abs (out-Floor f).by)
 floor_sum-out = fold_out-Floor ℕ ℕ counted_floor sum_step
 
-floor_constant-out : (f : Floor) → floor_constant f ≡ unsigned_abs (out-Floor f).times * ceil_div (constant_count (out-Floor f).inner) (unsigned_abs (out-Floor f).by)
+pub floor_constant-out : (f : Floor) → floor_constant f ≡ unsigned_abs (out-Floor f).times * ceil_div (constant_count (out-Floor f).inner) (unsigned_abs (out-Floor f).by)
 floor_constant-out = fold_out-Floor ℕ ℕ counted_floor constant_step
 
 abbrev EveryFloor : Floor → Type 0

@@ -14,7 +14,7 @@ use Rattle.affine_rows.proofs.FormEquations.{form_at-out, floor_at-out}
 use Rattle.affine_rows.proofs.Sums.{terms_at-append}
 use Rattle.wrap_words.proofs.Ring.{distrib, distrib_right, assoc}
 use Rattle.quasi_forms.specs.Alike.{same_floor, distinct}
-use Rattle.quasi_forms.specs.Collected.{collected_terms, with_times, times_of, collected_floors, scaled_terms, scaled_floors, collected_form, combined_form, sum_form, floor_form}
+use Rattle.quasi_forms.specs.Collected.{collected_terms, with_times, times_of, collected_floors, scaled_terms, multiple_floors, scaled_floors, collected_form, combined_form, sum_form, floor_form}
 use Rattle.quasi_forms.specs.Flattened.{floor_number}
 use Rattle.quasi_forms.proofs.TermSums.{collected-at}
 use Rattle.quasi_forms.proofs.Likeness.{same_floor-by, same_floor-inner, like_from, like_through}
@@ -150,7 +150,7 @@ one-like env (x ∷ xs) g h =
 
 -- ---- values
 
-or_true : (a b : Bool) → b ≡ true → (a || b) ≡ true
+pub or_true : (a b : Bool) → b ≡ true → (a || b) ≡ true
 or_true true b h = refl
 or_true false b h = h
 
@@ -192,14 +192,17 @@ pub scaled-terms-at : (env : Env) (p : ℤ) (ts : List (ℕ × ℤ)) → terms_a
 scaled-terms-at env p [] = omega (arith, ints)
 scaled-terms-at env p (t ∷ ts) = omega (arith, ints, scaled-terms-at env p ts, assoc p t.1 (env t.0), distrib p (t.1 *ℤ env t.0) (terms_at env ts))
 
-pub scaled-floors-at : (env : Env) (p : ℤ) (fs : List Floor) → total (map (floor_at env) (scaled_floors p fs)) ≡ p *ℤ total (map (floor_at env) fs)
-scaled-floors-at env p [] = omega (arith, ints)
-scaled-floors-at env p (f ∷ fs) =
-    omega (arith, ints, with-at env (p *ℤ (out-Floor f).times) f, floor_at-number env f, ap (λ (z : ℤ). p *ℤ z) (floor_at-number env f), scaled-floors-at env p fs, assoc p (out-Floor f).times (floor_number env f), distrib p (floor_at env f) (total (map (floor_at env) fs)))
+multiple-floors-at : (env : Env) (p : ℤ) (fs : List Floor) → total (map (floor_at env) (multiple_floors p fs)) ≡ p *ℤ total (map (floor_at env) fs)
+multiple-floors-at env p [] = omega (arith, ints)
+multiple-floors-at env p (f ∷ fs) =
+    omega (arith, ints, with-at env (p *ℤ (out-Floor f).times) f, floor_at-number env f, ap (λ (z : ℤ). p *ℤ z) (floor_at-number env f), multiple-floors-at env p fs, assoc p (out-Floor f).times (floor_number env f), distrib p (floor_at env f) (total (map (floor_at env) fs)))
 
-total-append : (xs ys : List ℤ) → total (xs ++ ys) ≡ total xs +ℤ total ys
-total-append [] ys = omega (arith, ints)
-total-append (x ∷ xs) ys = omega (arith, ints, total-append xs ys)
+scaled_step : (env : Env) (p : ℤ) (fs : List Floor) (b : Bool) → int_eq p (pos 0) ≡ b → total (map (floor_at env) (cond b [] (multiple_floors p fs))) ≡ p *ℤ total (map (floor_at env) fs)
+scaled_step env p fs false e = multiple-floors-at env p fs
+scaled_step env p fs true e = let none = (Decides-int_eq p (pos 0)).0 e in omega (arith, ints, ap (λ (z : ℤ). z *ℤ total (map (floor_at env) fs)) none)
+
+pub scaled-floors-at : (env : Env) (p : ℤ) (fs : List Floor) → total (map (floor_at env) (scaled_floors p fs)) ≡ p *ℤ total (map (floor_at env) fs)
+scaled-floors-at env p fs = scaled_step env p fs (int_eq p (pos 0)) refl
 
 map-append : (env : Env) (fs gs : List Floor) → total (map (floor_at env) (fs ++ gs)) ≡ total (map (floor_at env) fs) +ℤ total (map (floor_at env) gs)
 map-append env [] gs = omega (arith, ints)

@@ -5,4 +5,12 @@ pub mod Errors
 pub mod FormLimits
 pub mod FormValues
 pub mod SumLimits
+pub mod Recursion
+pub mod PartSums
+pub mod FlatRows
+pub mod FloorVariables
+pub mod FloorWidths
 pub mod Placing
+pub mod PutParts
+pub mod AffineValues
+pub mod AffineParts

@@ -93,7 +93,7 @@ same_floor-inner f g h = same_form-is (out-Floor f).inner (out-Floor g).inner (b
 
 -- ---- and the converse
 
-and_true : (a b : Bool) → a ≡ true → b ≡ true → (a && b) ≡ true
+pub and_true : (a b : Bool) → a ≡ true → b ≡ true → (a && b) ≡ true
 and_true a b h k = ap₂ (λ (x y : Bool). x && y) h k
 
 int_same : (z : ℤ) → int_eq z z ≡ true

@@ -1,25 +1,27 @@
 -- A form in the place of a variable: its value, and its parts.
-use Rattle.std.proofs.Common.{◌≡◌, ℕ, zero, suc, ◌+◌, ◌<◌, ◌≤◌, ℤ, pos, ◌+ℤ◌, ◌*ℤ◌, ◌≤ℤ◌, Bool, true, false, not, cond, ◌||◌, nat_eq, length, get_or, drop, drop-cons, add-one, List, [], ◌∷◌, ◌++◌, map, sum_by, arith, refl, sym, ap, ap₂, ◌∙◌, subst, unsigned_abs, All}
+use Rattle.std.proofs.Common.{◌≡◌, ℕ, zero, suc, ◌+◌, ◌<◌, ◌≤◌, ◌^◌, ℤ, pos, ◌+ℤ◌, ◌*ℤ◌, ◌≤ℤ◌, Bool, true, false, not, cond, nat_eq, length, get_or, drop, drop-cons, add-one, List, [], ◌∷◌, ◌++◌, map, sum_by, arith, refl, sym, ap, ap₂, ◌∙◌, subst, unsigned_abs, All}
 use Rattle.std.specs.Prelude.{flat_map}
 use Rattle.std.specs.List.{filter, AllByRecursion}
 use Rattle.std.specs.Int.{int_div_euclid}
 use Rattle.std.proofs.lemmas.Int.{ints}
-use Rattle.std.proofs.lemmas.Bool.Decides.{nat_tests}
-use Rattle.std.proofs.lemmas.List.Sums.{sum_by-cons}
+use Rattle.std.proofs.lemmas.List.Sums.{sum_by-cons, sum_by-append}
 use Rattle.std.proofs.lemmas.List.Elements.{All-nil, All-cons, All-head, All-tail}
 use Rattle.affine_rows.specs.declared.quasi.Quasi.{Quasi, Quasi-F, roll-Quasi, out-Quasi, out-roll-Quasi, fold_out-Quasi, fold-roll-Quasi, ind-Quasi}
 use Rattle.affine_rows.specs.declared.quasi.Floor.{Floor, Floor-F, roll-Floor, out-Floor, out-roll-Floor, fold_out-Floor}
 use Rattle.affine_rows.specs.Rows.{Env, terms_at}
 use Rattle.affine_rows.specs.Forms.{total, form_at, floor_at, IsForm, IsFloor}
 use Rattle.affine_rows.specs.Reduced.{factor_of}
-use Rattle.affine_rows.proofs.FormEquations.{form_at-out, floor_at-out, IsFloor-quotient}
-use Rattle.wrap_words.proofs.Ring.{distrib_right}
+use Rattle.affine_rows.proofs.FormEquations.{form_at-out, floor_at-out, IsFloor-quotient, form_terms}
 use Rattle.expr_tree.specs.Scenes.{given, is_among}
-use Rattle.quasi_forms.specs.Collected.{IsWide, put_form, put_step, put_floor_step, without_terms, combined_form}
-use Rattle.quasi_forms.specs.Placed.{put_floor, PutsInner, PutsWithin}
+use Rattle.quasi_forms.specs.Collected.{IsWide, put_parts, put_form, put_step, put_over, put_floor_step, without_terms, combined_form}
+use Rattle.quasi_forms.specs.Combined.{IsPart, Multiples, weight}
+use Rattle.quasi_forms.specs.Placed.{vars_differ, put_floor, PutsInner, PutsWithin}
 use Rattle.quasi_forms.specs.Limits.{floors_in, floors_within}
 use Rattle.quasi_forms.proofs.FormValues.{combined-at}
 use Rattle.quasi_forms.proofs.FormLimits.{floors_within-out}
+use Rattle.quasi_forms.proofs.PartSums.{form_part, total-one}
+use Rattle.quasi_forms.proofs.PutParts.{apart, weight-parts}
+use Rattle.quasi_forms.proofs.Recursion.{recursion-left, recursion-right, recursion-append}
 
 -- ---- equations
 
@@ -38,68 +40,48 @@ put_floor-out vs bs f = fold_out-Floor Floor Quasi put_floor_step (put_step vs b
 
 -- ---- the value
 
--- a variable's terms apart from the others
-apart_step : (env : Env) (v : ℕ) (z : ℤ) (u : ℕ) (f rest factor other : ℤ) (ts : List (ℕ × ℤ)) (b : Bool) → nat_eq v u ≡ b → nat_eq u v ≡ b → rest ≡ factor *ℤ z +ℤ terms_at env ts →
-    f *ℤ (cond b z (env u)) +ℤ rest ≡ (cond b (f +ℤ factor) factor) *ℤ z +ℤ terms_at env (cond (not (b || false)) ((u, f) ∷ ts) ts)
-apart_step env v z u f rest factor other ts true e g h = omega (arith, ints, h, distrib_right f factor z)
-apart_step env v z u f rest factor other ts false e g h = omega (arith, ints, h)
+abbrev FloorPut : List ℕ → List Quasi → Floor → Type 0
+FloorPut vs bs f = (env : Env) → floor_at env (put_floor vs bs f) ≡ floor_at (given vs (map (form_at env) bs) env) f
 
-swapped : (a b : ℕ) → nat_eq a b ≡ nat_eq b a
-swapped a b = grind (arith, nat_tests)
+abbrev FormPut : List ℕ → List Quasi → Quasi → Type 0
+FormPut vs bs q = (env : Env) → form_at env (put_form vs bs q) ≡ form_at (given vs (map (form_at env) bs) env) q
 
-pub apart : (env : Env) (v : ℕ) (z : ℤ) (ts : List (ℕ × ℤ)) →
-    terms_at (given (v ∷ []) (z ∷ []) env) ts ≡ factor_of v ts *ℤ z +ℤ terms_at env (filter (λ t. not (is_among (v ∷ []) t.0)) ts)
-apart env v z [] = omega (arith, ints)
-apart env v z (t ∷ ts) =
-    let same = swapped t.0 v in
-    apart_step env v z t.0 t.1 (terms_at (given (v ∷ []) (z ∷ []) env) ts) (factor_of v ts) (pos 0) (filter (λ t. not (is_among (v ∷ []) t.0)) ts) (nat_eq v t.0) refl same (apart env v z ts)
-    ∙ ap (λ (b : Bool). (cond b (t.1 +ℤ factor_of v ts) (factor_of v ts)) *ℤ z +ℤ terms_at env (filter (λ t. not (is_among (v ∷ []) t.0)) (t ∷ ts))) (sym same)
-
-abbrev FloorPut : ℕ → Quasi → Floor → Type 0
-FloorPut v b f = (env : Env) → floor_at env (put_floor (v ∷ []) (b ∷ []) f) ≡ floor_at (given (v ∷ []) (form_at env b ∷ []) env) f
-
-abbrev FormPut : ℕ → Quasi → Quasi → Type 0
-FormPut v b q = (env : Env) → form_at env (put_form (v ∷ []) (b ∷ []) q) ≡ form_at (given (v ∷ []) (form_at env b ∷ []) env) q
-
-floors_put : (v : ℕ) (b : Quasi) (fs : List ((f : Floor) × FloorPut v b f)) (env : Env) →
-    total (map (floor_at env) (map (put_floor (v ∷ []) (b ∷ [])) (map (λ e. e.0) fs))) ≡ total (map (floor_at (given (v ∷ []) (form_at env b ∷ []) env)) (map (λ e. e.0) fs))
-floors_put v b [] env = refl
-floors_put v b (f ∷ fs) env = ap₂ (λ (x y : ℤ). x +ℤ y) (f.1 env) (floors_put v b fs env)
+floors_put : (vs : List ℕ) (bs : List Quasi) (fs : List ((f : Floor) × FloorPut vs bs f)) (env : Env) →
+    total (map (floor_at env) (map (put_floor vs bs) (map (λ e. e.0) fs))) ≡ total (map (floor_at (given vs (map (form_at env) bs) env)) (map (λ e. e.0) fs))
+floors_put vs bs [] env = refl
+floors_put vs bs (f ∷ fs) env = ap₂ (λ (x y : ℤ). x +ℤ y) (f.1 env) (floors_put vs bs fs env)
 
 without-at : (env : Env) (vs : List ℕ) (q : Quasi-F Floor Quasi) → form_at env (without_terms vs q) ≡ q.constant +ℤ (terms_at env (filter (λ t. not (is_among vs t.0)) q.terms) +ℤ total (map (floor_at env) q.floors))
 without-at env vs q = simp out-roll-Quasi at (form_at-out env (without_terms vs q))
 
-form_case : (v : ℕ) (b : Quasi) (y : Quasi-F ((f : Floor) × FloorPut v b f) ((q : Quasi) × FormPut v b q)) → FormPut v b (roll-Quasi (record { constant = y.constant; terms = y.terms; floors = map (λ e. e.0) y.floors }))
-form_case v b y env =
+form_case : (vs : List ℕ) (bs : List Quasi) → vars_differ vs ≡ true → length vs ≡ length bs → (y : Quasi-F ((f : Floor) × FloorPut vs bs f) ((q : Quasi) × FormPut vs bs q)) →
+    FormPut vs bs (roll-Quasi (record { constant = y.constant; terms = y.terms; floors = map (λ e. e.0) y.floors }))
+form_case vs bs differ count y env =
     let q : Quasi = roll-Quasi (record { constant = y.constant; terms = y.terms; floors = map (λ e. e.0) y.floors }) in
-    let layer : Quasi-F Floor Quasi = record { constant = y.constant; terms = y.terms; floors = map (put_floor (v ∷ []) (b ∷ [])) (map (λ e. e.0) y.floors) } in
-    let z : ℤ = form_at env b in
-    let made : put_form (v ∷ []) (b ∷ []) q ≡ put_step (v ∷ []) (b ∷ []) layer = put_form-roll (v ∷ []) (b ∷ []) (record { constant = y.constant; terms = y.terms; floors = map (λ e. e.0) y.floors }) in
-    let left = ap (form_at env) made ∙ combined-at env ((factor_of v y.terms, b) ∷ (pos 1, without_terms (v ∷ []) layer) ∷ []) in
-    let right : form_at (given (v ∷ []) (z ∷ []) env) q ≡ y.constant +ℤ (terms_at (given (v ∷ []) (z ∷ []) env) y.terms +ℤ total (map (floor_at (given (v ∷ []) (z ∷ []) env)) (map (λ e. e.0) y.floors))) = simp out-roll-Quasi at (form_at-out (given (v ∷ []) (z ∷ []) env) q) in
-    omega (arith, ints, left, right, without-at env (v ∷ []) layer, apart env v z y.terms, floors_put v b y.floors env)
+    let layer : Quasi-F Floor Quasi = record { constant = y.constant; terms = y.terms; floors = map (put_floor vs bs) (map (λ e. e.0) y.floors) } in
+    let at : Env = given vs (map (form_at env) bs) env in
+    let ms : Multiples = put_parts vs bs y.terms in
+    let last : ℤ × Quasi = (pos 1, without_terms vs layer) in
+    let made : put_form vs bs q ≡ put_step vs bs layer = put_form-roll vs bs (record { constant = y.constant; terms = y.terms; floors = map (λ e. e.0) y.floors }) in
+    let left = ap (form_at env) made ∙ (combined-at env (ms ++ last ∷ []) ∙ total-one (λ m. m.0 *ℤ form_at env m.1) ms last) in
+    let right : form_at at q ≡ y.constant +ℤ (terms_at at y.terms +ℤ total (map (floor_at at) (map (λ e. e.0) y.floors))) = simp out-roll-Quasi at (form_at-out at q) in
+    omega (arith, ints, left, right, without-at env vs layer, apart env vs bs y.terms differ count, floors_put vs bs y.floors env)
 
-floor_case : (v : ℕ) (b : Quasi) (y : Floor-F ((f : Floor) × FloorPut v b f) ((q : Quasi) × FormPut v b q)) → FloorPut v b (roll-Floor (record { times = y.times; inner = y.inner.0; by = y.by }))
-floor_case v b y env =
+floor_case : (vs : List ℕ) (bs : List Quasi) (y : Floor-F ((f : Floor) × FloorPut vs bs f) ((q : Quasi) × FormPut vs bs q)) → FloorPut vs bs (roll-Floor (record { times = y.times; inner = y.inner.0; by = y.by }))
+floor_case vs bs y env =
+    let at : Env = given vs (map (form_at env) bs) env in
     let f : Floor = roll-Floor (record { times = y.times; inner = y.inner.0; by = y.by }) in
-    let made : put_floor (v ∷ []) (b ∷ []) f ≡ roll-Floor (record { times = y.times; inner = put_form (v ∷ []) (b ∷ []) y.inner.0; by = y.by }) = simp out-roll-Floor at (put_floor-out (v ∷ []) (b ∷ []) f) in
-    let left : floor_at env (roll-Floor (record { times = y.times; inner = put_form (v ∷ []) (b ∷ []) y.inner.0; by = y.by })) ≡ y.times *ℤ int_div_euclid (form_at env (put_form (v ∷ []) (b ∷ []) y.inner.0)) y.by = simp out-roll-Floor at (floor_at-out env (roll-Floor (record { times = y.times; inner = put_form (v ∷ []) (b ∷ []) y.inner.0; by = y.by }))) in
-    let right : floor_at (given (v ∷ []) (form_at env b ∷ []) env) f ≡ y.times *ℤ int_div_euclid (form_at (given (v ∷ []) (form_at env b ∷ []) env) y.inner.0) y.by = simp out-roll-Floor at (floor_at-out (given (v ∷ []) (form_at env b ∷ []) env) f) in
+    let g : Floor = roll-Floor (record { times = y.times; inner = put_form vs bs y.inner.0; by = y.by }) in
+    let made : put_floor vs bs f ≡ g = simp out-roll-Floor at (put_floor-out vs bs f) in
+    let left : floor_at env g ≡ y.times *ℤ int_div_euclid (form_at env (put_form vs bs y.inner.0)) y.by = simp out-roll-Floor at (floor_at-out env g) in
+    let right : floor_at at f ≡ y.times *ℤ int_div_euclid (form_at at y.inner.0) y.by = simp out-roll-Floor at (floor_at-out at f) in
     ap (floor_at env) made ∙ (left ∙ (ap (λ (x : ℤ). y.times *ℤ int_div_euclid x y.by) (y.inner.1 env) ∙ sym right))
 
-pub put-at : (v : ℕ) (b : Quasi) (q : Quasi) → FormPut v b q
-put-at v b = ind-Quasi (FloorPut v b) (FormPut v b) (λ x y is. subst (λ z. FloorPut v b (roll-Floor z)) is (floor_case v b y)) (λ x y is. subst (λ z. FormPut v b (roll-Quasi z)) is (form_case v b y))
+pub put-at : (vs : List ℕ) (bs : List Quasi) → vars_differ vs ≡ true → length vs ≡ length bs → (q : Quasi) → FormPut vs bs q
+put-at vs bs differ count q =
+    ind-Quasi (FloorPut vs bs) (FormPut vs bs) (λ x y is. subst (λ z. FloorPut vs bs (roll-Floor z)) is (floor_case vs bs y)) (λ x y is. subst (λ z. FormPut vs bs (roll-Quasi z)) is (form_case vs bs differ count y)) q
 
--- ---- the factor of the variable, and the other terms
-
-factor_step_size : (b : Bool) (f g : ℤ) (n m : ℕ) → unsigned_abs g ≤ n → m ≡ unsigned_abs f + n → unsigned_abs (cond b (f +ℤ g) g) ≤ m
-factor_step_size true f g n m h e = omega (arith, ints)
-factor_step_size false f g n m h e = omega (arith, h, e)
-
-pub factor_size : (v : ℕ) (ts : List (ℕ × ℤ)) → unsigned_abs (factor_of v ts) ≤ sum_by (λ t. unsigned_abs t.1) ts
-factor_size v [] = omega arith
-factor_size v (t ∷ ts) =
-    factor_step_size (nat_eq t.0 v) t.1 (factor_of v ts) (sum_by (λ t. unsigned_abs t.1) ts) (sum_by (λ t. unsigned_abs t.1) (t ∷ ts)) (factor_size v ts) (sum_by-cons (λ (t : ℕ × ℤ). unsigned_abs t.1) t ts)
+-- ---- the other terms
 
 kept_size : (b : Bool) (t : ℕ × ℤ) (rest : List (ℕ × ℤ)) (n m : ℕ) → sum_by (λ t. unsigned_abs t.1) rest ≤ n → m ≡ unsigned_abs t.1 + n → sum_by (λ t. unsigned_abs t.1) (cond b (t ∷ rest) rest) ≤ m
 kept_size true t rest n m h e = omega (arith, h, e, sum_by-cons (λ (t : ℕ × ℤ). unsigned_abs t.1) t rest)
@@ -126,18 +108,6 @@ times_put vs bs (f ∷ fs) =
     omega (arith, times_put vs bs fs, ap unsigned_abs (times-put vs bs f), sum_by-cons (λ (f : Floor). unsigned_abs (out-Floor f).times) f fs, sum_by-cons (λ (f : Floor). unsigned_abs (out-Floor f).times) (put_floor vs bs f) (map (put_floor vs bs) fs))
 
 -- facts of the floors in floors
-pub recursion-left : {X : Type 0} (P : X → Type 0) (xs ys : List X) → AllByRecursion P (xs ++ ys) → AllByRecursion P xs
-recursion-left P [] ys h = tt
-recursion-left P (x ∷ xs) ys h = (h.0, recursion-left P xs ys h.1)
-
-pub recursion-right : {X : Type 0} (P : X → Type 0) (xs ys : List X) → AllByRecursion P (xs ++ ys) → AllByRecursion P ys
-recursion-right P [] ys h = h
-recursion-right P (x ∷ xs) ys h = recursion-right P xs ys h.1
-
-pub recursion-append : {X : Type 0} (P : X → Type 0) (xs ys : List X) → AllByRecursion P xs → AllByRecursion P ys → AllByRecursion P (xs ++ ys)
-recursion-append P [] ys h k = k
-recursion-append P (x ∷ xs) ys h k = (h.0, recursion-append P xs ys h.1 k)
-
 -- a floor's parts are those of the form under it, and that form
 pub parts_made : (vs : List ℕ) (bs : List Quasi) (f : Floor) → PutsWithin vs bs (out-Floor f).inner → AllByRecursion (PutsInner vs bs) (floors_within f)
 parts_made vs bs f h = subst (AllByRecursion (PutsInner vs bs)) (sym (floors_within-out f)) (recursion-append (PutsInner vs bs) (floors_in (out-Floor f).inner) (f ∷ []) h.parts (h.form, tt))
@@ -179,10 +149,43 @@ parts_at_place P [] i g within is h = absurd (omega (arith, within))
 parts_at_place P (f ∷ fs) zero g within is h = subst (λ (x : Floor). AllByRecursion P (floors_within x)) (sym is) (recursion-left P (floors_within f) (flat_map floors_within fs) h)
 parts_at_place P (f ∷ fs) (suc i) g within is h = parts_at_place P fs i g (omega (arith, within)) is (recursion-right P (floors_within f) (flat_map floors_within fs) h)
 
--- the sum that the form with another put in is
-pub put_is : (v : ℕ) (b a p rest : Quasi) (k : ℤ) (ts : List (ℕ × ℤ)) (fs : List Floor) → p ≡ b → k ≡ factor_of v (out-Quasi a).terms → ts ≡ filter (λ t. not (is_among (v ∷ []) t.0)) (out-Quasi a).terms → fs ≡ map (put_floor (v ∷ []) (b ∷ [])) (out-Quasi a).floors →
-    rest ≡ roll-Quasi (record { constant = (out-Quasi a).constant; terms = ts; floors = fs }) → combined_form ((k, p) ∷ (pos 1, rest) ∷ []) ≡ put_form (v ∷ []) (b ∷ []) a
-put_is v b a p rest k ts fs same factor others floors is =
-    let whole : rest ≡ roll-Quasi (record { constant = (out-Quasi a).constant; terms = filter (λ t. not (is_among (v ∷ []) t.0)) (out-Quasi a).terms; floors = map (put_floor (v ∷ []) (b ∷ [])) (out-Quasi a).floors }) = is ∙ ap₂ (λ (us : List (ℕ × ℤ)) (gs : List Floor). roll-Quasi (record { constant = (out-Quasi a).constant; terms = us; floors = gs })) others floors in
-    ap₂ (λ (z : ℤ) (q : Quasi). combined_form ((z, q) ∷ (pos 1, rest) ∷ [])) factor same
-    ∙ (ap (λ (q : Quasi). combined_form ((factor_of v (out-Quasi a).terms, b) ∷ (pos 1, q) ∷ [])) whole ∙ sym (put_form-out (v ∷ []) (b ∷ []) a))
+-- the form with others put in, from its terms of other variables and its floors
+pub part_rest : (vs : List ℕ) (bs : List Quasi) (a : Quasi) (ts : List (ℕ × ℤ)) (fs : List Floor) → IsForm a → ts ≡ filter (λ t. not (is_among vs t.0)) (out-Quasi a).terms → sum_by (λ f. unsigned_abs (out-Floor f).times) fs ≤ 2 ^ 63 → All IsWide fs →
+    IsPart (roll-Quasi (record { constant = (out-Quasi a).constant; terms = ts; floors = fs }))
+part_rest vs bs a ts fs h others factors wide =
+    let q : Quasi = roll-Quasi (record { constant = (out-Quasi a).constant; terms = ts; floors = fs }) in
+    let own : IsPart a = form_part a h in
+    let constant : (out-Quasi q).constant ≡ (out-Quasi a).constant = simp out-roll-Quasi refl in
+    let terms : (out-Quasi q).terms ≡ ts = simp out-roll-Quasi refl in
+    let floors : (out-Quasi q).floors ≡ fs = simp out-roll-Quasi refl in
+    let same = ap (sum_by (λ (t : ℕ × ℤ). unsigned_abs t.1)) (terms ∙ others) in
+    record {
+      constant = (let e = ap unsigned_abs constant in omega (arith, e, own.constant));
+      terms = omega (arith, same, others_size vs (out-Quasi a).terms, own.terms);
+      factors = (let e = ap (sum_by (λ (f : Floor). unsigned_abs (out-Floor f).times)) floors in omega (arith, e, factors));
+      floors = subst (All IsWide) (sym floors) wide;
+    }
+
+-- the factors of what is put in, and of the rest
+pub room_put : (vs : List ℕ) (bs : List Quasi) (a : Quasi) (ts : List (ℕ × ℤ)) → vars_differ vs ≡ true → IsForm a → ts ≡ (out-Quasi a).terms → weight (put_parts vs bs ts) + 1 ≤ 2 ^ 63 + 1
+room_put vs bs a ts differ h e =
+    let same = ap (sum_by (λ (t : ℕ × ℤ). unsigned_abs t.1)) e in
+    omega (arith, same, weight-parts vs bs ts differ, form_terms a h)
+
+pub room_over : (vs : List ℕ) (bs : List Quasi) (a rest : Quasi) (ts : List (ℕ × ℤ)) → vars_differ vs ≡ true → IsForm a → ts ≡ (out-Quasi a).terms → weight (put_parts vs bs ts ++ (pos 1, rest) ∷ []) + 0 ≤ 2 ^ 63 + 1
+room_over vs bs a rest ts differ h e =
+    omega (
+      arith,
+      room_put vs bs a ts differ h e,
+      sum_by-append (λ (m : ℤ × Quasi). unsigned_abs m.0) (put_parts vs bs ts) ((pos 1, rest) ∷ []),
+      sum_by-cons (λ (m : ℤ × Quasi). unsigned_abs m.0) (pos 1, rest) [],
+    )
+
+pub over_is : (vs : List ℕ) (bs : List Quasi) (a : Quasi) (fs : List Floor) (us ts others : List (ℕ × ℤ)) → us ≡ (out-Quasi a).terms → ts ≡ (out-Quasi a).terms → others ≡ filter (λ t. not (is_among vs t.0)) us →
+    combined_form (put_parts vs bs ts ++ (pos 1, roll-Quasi (record { constant = (out-Quasi a).constant; terms = others; floors = fs })) ∷ []) ≡ put_over vs bs a fs
+over_is vs bs a fs us ts others e f g =
+    ap₂ (λ (xs ys : List (ℕ × ℤ)). combined_form (put_parts vs bs xs ++ (pos 1, roll-Quasi (record { constant = (out-Quasi a).constant; terms = ys; floors = fs })) ∷ [])) f
+    (g ∙ ap (filter (λ (t : ℕ × ℤ). not (is_among vs t.0))) e)
+
+pub put_form-over : (vs : List ℕ) (bs : List Quasi) (a : Quasi) (gs fs : List Floor) → gs ≡ (out-Quasi a).floors → fs ≡ map (put_floor vs bs) gs → put_over vs bs a fs ≡ put_form vs bs a
+put_form-over vs bs a gs fs e f = ap (put_over vs bs a) (f ∙ ap (map (put_floor vs bs)) e) ∙ sym (put_form-out vs bs a)

@@ -1,19 +1,19 @@
 -- Collected forms and their limits.
-use Rattle.std.proofs.Common.{◌≡◌, ℕ, ◌+◌, ◌*◌, ◌^◌, ◌≤◌, ℤ, pos, ◌+ℤ◌, ◌*ℤ◌, ◌≤ℤ◌, Bool, true, false, not, cond, ◌&&◌, List, [], ◌∷◌, ◌++◌, map, sum_by, arith, refl, sym, ap, ap₂, ◌∙◌, subst, unsigned_abs, All, append-nil}
+use Rattle.std.proofs.Common.{◌≡◌, ℕ, ◌*◌, ◌^◌, ◌≤◌, ℤ, pos, ◌*ℤ◌, ◌≤ℤ◌, Bool, true, false, not, cond, ◌&&◌, List, [], ◌∷◌, map, sum_by, arith, refl, sym, ap, ap₂, ◌∙◌, subst, unsigned_abs, All}
 use Rattle.std.specs.List.{filter, list_all}
-use Rattle.std.proofs.lemmas.Int.{ints, unsigned_abs-mul}
-use Rattle.std.proofs.Math.Nat.{mul-le-mul_left}
-use Rattle.std.proofs.lemmas.Bool.Decides.{nat_tests}
-use Rattle.std.proofs.lemmas.List.Sums.{sum_by-cons, sum_by-append}
+use Rattle.std.proofs.lemmas.Int.{unsigned_abs-mul}
+use Rattle.std.specs.Ordering.{int_eq}
+use Rattle.std.proofs.lemmas.Bool.Decides.{nat_tests, Decides-int_eq}
+use Rattle.std.proofs.lemmas.List.Sums.{sum_by-cons}
 use Rattle.std.proofs.lemmas.List.Elements.{All-nil, All-cons, All-head, All-tail}
 use Rattle.affine_rows.specs.declared.quasi.Quasi.{Quasi, roll-Quasi, out-Quasi, out-roll-Quasi}
 use Rattle.affine_rows.specs.declared.quasi.Floor.{Floor, roll-Floor, out-Floor, out-roll-Floor}
 use Rattle.affine_rows.specs.Forms.{IsForm, IsFloor}
 use Rattle.affine_rows.specs.Reduced.{fits_entry}
 use Rattle.affine_rows.proofs.Combining.{fits_entry-is}
-use Rattle.affine_rows.proofs.FormEquations.{IsForm-small, IsForm-floors, IsFloor-quotient, IsFloor-inner, form_terms}
+use Rattle.affine_rows.proofs.FormEquations.{IsForm-small, IsForm-floors, IsFloor-quotient, form_terms}
 use Rattle.quasi_forms.specs.Alike.{same_floor, distinct}
-use Rattle.quasi_forms.specs.Collected.{IsWide, with_times, times_of, collected_terms, collected_floors, scaled_terms, scaled_floors, collected_form, combined_form, floor_form}
+use Rattle.quasi_forms.specs.Collected.{IsWide, with_times, times_of, collected_terms, collected_floors, scaled_terms, multiple_floors, scaled_floors, collected_form, floor_form}
 use Rattle.quasi_forms.specs.Limits.{IsWithin}
 use Rattle.quasi_forms.proofs.FormLimits.{constant_count-out, floor_made}
 
@@ -109,7 +109,7 @@ wide-collected : (fs : List Floor) → All IsWide fs → All IsWide (collected_f
 unfolding collected_floors
 wide-collected fs h = wide-filter _ _ (wide-gathered fs (distinct same_floor fs) (wide-distinct fs h))
 
-split : (a b : Bool) → (a && b) ≡ true → (a ≡ true) × (b ≡ true)
+pub split : (a b : Bool) → (a && b) ≡ true → (a ≡ true) × (b ≡ true)
 split true b h = (refl, h)
 split false b h = absurd (let no : false ≡ true = h in cc)
 
@@ -129,7 +129,7 @@ floors_collected fs all fit = floors_from (collected_floors fs) (wide-collected 
 
 -- ---- multiples of forms
 
-scaled-size : (p : ℤ) (ts : List (ℕ × ℤ)) → sum_by (λ t. unsigned_abs t.1) (scaled_terms p ts) ≡ unsigned_abs p * sum_by (λ t. unsigned_abs t.1) ts
+pub scaled-size : (p : ℤ) (ts : List (ℕ × ℤ)) → sum_by (λ t. unsigned_abs t.1) (scaled_terms p ts) ≡ unsigned_abs p * sum_by (λ t. unsigned_abs t.1) ts
 scaled-size p [] = omega arith
 scaled-size p (t ∷ ts) =
     let whole = ap (λ (k : ℕ). unsigned_abs p * k) (sum_by-cons (λ (t : ℕ × ℤ). unsigned_abs t.1) t ts) in
@@ -138,77 +138,19 @@ scaled-size p (t ∷ ts) =
 times-with : (z : ℤ) (f : Floor) → (out-Floor (with_times z f)).times ≡ z
 times-with z f = simp out-roll-Floor refl
 
-scaled-times : (p : ℤ) (fs : List Floor) → sum_by (λ f. unsigned_abs (out-Floor f).times) (scaled_floors p fs) ≡ unsigned_abs p * sum_by (λ f. unsigned_abs (out-Floor f).times) fs
-scaled-times p [] = omega arith
-scaled-times p (f ∷ fs) =
+multiple-times : (p : ℤ) (fs : List Floor) → sum_by (λ f. unsigned_abs (out-Floor f).times) (multiple_floors p fs) ≡ unsigned_abs p * sum_by (λ f. unsigned_abs (out-Floor f).times) fs
+multiple-times p [] = omega arith
+multiple-times p (f ∷ fs) =
     let one = ap unsigned_abs (times-with (p *ℤ (out-Floor f).times) f) ∙ unsigned_abs-mul p (out-Floor f).times in
     let whole = ap (λ (k : ℕ). unsigned_abs p * k) (sum_by-cons (λ (f : Floor). unsigned_abs (out-Floor f).times) f fs) in
-    omega (arith, scaled-times p fs, one, whole, sum_by-cons (λ (f : Floor). unsigned_abs (out-Floor f).times) (with_times (p *ℤ (out-Floor f).times) f) (scaled_floors p fs))
+    omega (arith, multiple-times p fs, one, whole, sum_by-cons (λ (f : Floor). unsigned_abs (out-Floor f).times) (with_times (p *ℤ (out-Floor f).times) f) (multiple_floors p fs))
 
-wide-floors : (fs : List Floor) → All IsFloor fs → (p : ℤ) → All IsWide (scaled_floors p fs)
-wide-floors [] all p = All-nil IsWide
-wide-floors (f ∷ fs) all p =
-    let here : IsFloor f = All-head IsFloor f fs all in
-    All-cons IsWide (with_times (p *ℤ (out-Floor f).times) f) (scaled_floors p fs) (wide-with (p *ℤ (out-Floor f).times) f (record { positive = (IsFloor-quotient f here).positive; inner = IsFloor-inner f here }))
-    (wide-floors fs (All-tail IsFloor f fs all) p)
+times_step : (p : ℤ) (fs : List Floor) (b : Bool) → int_eq p (pos 0) ≡ b → sum_by (λ f. unsigned_abs (out-Floor f).times) (cond b [] (multiple_floors p fs)) ≡ unsigned_abs p * sum_by (λ f. unsigned_abs (out-Floor f).times) fs
+times_step p fs false e = multiple-times p fs
+times_step p fs true e = let none = ap unsigned_abs ((Decides-int_eq p (pos 0)).0 e) in omega (arith, ap (λ (n : ℕ). n * sum_by (λ (f : Floor). unsigned_abs (out-Floor f).times) fs) none)
 
-wide-append : (fs gs : List Floor) → All IsWide fs → All IsWide gs → All IsWide (fs ++ gs)
-wide-append [] gs h k = k
-wide-append (f ∷ fs) gs h k = All-cons IsWide f (fs ++ gs) (All-head IsWide f fs h) (wide-append fs gs (All-tail IsWide f fs h) k)
-
--- the multiple of terms and of floors added to others
-pub terms_grow : (p : ℤ) (ts old made : List (ℕ × ℤ)) → sum_by (λ t. unsigned_abs t.1) ts ≤ 2 ^ 62 → made ≡ old ++ scaled_terms p ts →
-    sum_by (λ t. unsigned_abs t.1) made ≤ sum_by (λ t. unsigned_abs t.1) old + unsigned_abs p * 2 ^ 62
-terms_grow p ts old made h is =
-    let whole = ap (sum_by (λ (t : ℕ × ℤ). unsigned_abs t.1)) is ∙ sum_by-append (λ (t : ℕ × ℤ). unsigned_abs t.1) old (scaled_terms p ts) in
-    omega (arith, whole, scaled-size p ts, mul-le-mul_left (unsigned_abs p) h)
-
-pub floors_grow : (p : ℤ) (fs old made : List Floor) → sum_by (λ f. unsigned_abs (out-Floor f).times) fs ≤ 2 ^ 63 → made ≡ old ++ scaled_floors p fs →
-    sum_by (λ f. unsigned_abs (out-Floor f).times) made ≤ sum_by (λ f. unsigned_abs (out-Floor f).times) old + unsigned_abs p * 2 ^ 63
-floors_grow p fs old made h is =
-    let whole = ap (sum_by (λ (f : Floor). unsigned_abs (out-Floor f).times)) is ∙ sum_by-append (λ (f : Floor). unsigned_abs (out-Floor f).times) old (scaled_floors p fs) in
-    omega (arith, whole, scaled-times p fs, mul-le-mul_left (unsigned_abs p) h)
-
-wide-scaled : (p : ℤ) (fs : List Floor) → All IsWide fs → All IsWide (scaled_floors p fs)
-wide-scaled p [] all = All-nil IsWide
-wide-scaled p (f ∷ fs) all = All-cons IsWide (with_times (p *ℤ (out-Floor f).times) f) (scaled_floors p fs) (wide-with (p *ℤ (out-Floor f).times) f (All-head IsWide f fs all)) (wide-scaled p fs (All-tail IsWide f fs all))
-
-pub wide_grow : (p : ℤ) (fs old made : List Floor) → All IsWide fs → All IsWide old → made ≡ old ++ scaled_floors p fs → All IsWide made
-wide_grow p fs old made h all is = subst (All IsWide) (sym is) (wide-append old (scaled_floors p fs) all (wide-scaled p fs h))
-
--- the multiple of a form added to a sum
-pub terms_more : (p : ℤ) (q : Quasi) (old made : List (ℕ × ℤ)) → IsForm q → made ≡ old ++ scaled_terms p (out-Quasi q).terms →
-    sum_by (λ t. unsigned_abs t.1) made ≤ sum_by (λ t. unsigned_abs t.1) old + unsigned_abs p * 2 ^ 62
-terms_more p q old made h is =
-    let whole = ap (sum_by (λ (t : ℕ × ℤ). unsigned_abs t.1)) is ∙ sum_by-append (λ (t : ℕ × ℤ). unsigned_abs t.1) old (scaled_terms p (out-Quasi q).terms) in
-    omega (arith, whole, scaled-size p (out-Quasi q).terms, mul-le-mul_left (unsigned_abs p) (form_terms q h))
-
-pub floors_more : (p : ℤ) (q : Quasi) (old made : List Floor) → IsForm q → made ≡ old ++ scaled_floors p (out-Quasi q).floors →
-    sum_by (λ f. unsigned_abs (out-Floor f).times) made ≤ sum_by (λ f. unsigned_abs (out-Floor f).times) old + unsigned_abs p * 2 ^ 63
-floors_more p q old made h is =
-    let whole = ap (sum_by (λ (f : Floor). unsigned_abs (out-Floor f).times)) is ∙ sum_by-append (λ (f : Floor). unsigned_abs (out-Floor f).times) old (scaled_floors p (out-Quasi q).floors) in
-    omega (arith, whole, scaled-times p (out-Quasi q).floors, mul-le-mul_left (unsigned_abs p) (IsForm-small q h).factors)
-
-pub wide_more : (p : ℤ) (q : Quasi) (old made : List Floor) → IsForm q → All IsWide old → made ≡ old ++ scaled_floors p (out-Quasi q).floors → All IsWide made
-wide_more p q old made h all is = subst (All IsWide) (sym is) (wide-append old (scaled_floors p (out-Quasi q).floors) all (wide-floors (out-Quasi q).floors (IsForm-floors q h) p))
-
-pub constant_small : (q : Quasi) → IsForm q → unsigned_abs (out-Quasi q).constant ≤ 2 ^ 62
-constant_small q h = omega (arith, (IsForm-small q h).constant, constant_count-out q)
-
-pub sum_is : (p : ℤ) (a : Quasi) (times : ℤ) (b : Quasi) (c d e : ℤ) (ts us ws : List (ℕ × ℤ)) (fs gs hs : List Floor) → c ≡ pos 0 → ts ≡ [] → fs ≡ [] →
-    d ≡ c +ℤ p *ℤ (out-Quasi a).constant → us ≡ ts ++ scaled_terms p (out-Quasi a).terms → gs ≡ fs ++ scaled_floors p (out-Quasi a).floors →
-    e ≡ d +ℤ times *ℤ (out-Quasi b).constant → ws ≡ us ++ scaled_terms times (out-Quasi b).terms → hs ≡ gs ++ scaled_floors times (out-Quasi b).floors →
-    collected_form e ws hs ≡ combined_form ((p, a) ∷ (times, b) ∷ [])
-sum_is p a times b c d e ts us ws fs gs hs c0 t0 f0 d1 u1 g1 e2 w2 h2 =
-    let x : List (ℕ × ℤ) = scaled_terms p (out-Quasi a).terms in
-    let y : List (ℕ × ℤ) = scaled_terms times (out-Quasi b).terms in
-    let u : List Floor = scaled_floors p (out-Quasi a).floors in
-    let v : List Floor = scaled_floors times (out-Quasi b).floors in
-    let constant : e ≡ p *ℤ (out-Quasi a).constant +ℤ (times *ℤ (out-Quasi b).constant +ℤ pos 0) = omega (arith, ints, c0, d1, e2) in
-    let terms : ws ≡ x ++ (y ++ []) = w2 ∙ (ap (λ (zs : List (ℕ × ℤ)). zs ++ y) (u1 ∙ ap (λ (zs : List (ℕ × ℤ)). zs ++ x) t0) ∙ ap (λ (zs : List (ℕ × ℤ)). x ++ zs) (sym (append-nil y))) in
-    let floors : hs ≡ u ++ (v ++ []) = h2 ∙ (ap (λ (zs : List Floor). zs ++ v) (g1 ∙ ap (λ (zs : List Floor). zs ++ u) f0) ∙ ap (λ (zs : List Floor). u ++ zs) (sym (append-nil v))) in
-    ap (λ (z : ℤ). collected_form z ws hs) constant
-    ∙ ap₂ (λ (zs : List (ℕ × ℤ)) (gs : List Floor). collected_form (p *ℤ (out-Quasi a).constant +ℤ (times *ℤ (out-Quasi b).constant +ℤ pos 0)) zs gs) terms floors
+pub scaled-times : (p : ℤ) (fs : List Floor) → sum_by (λ f. unsigned_abs (out-Floor f).times) (scaled_floors p fs) ≡ unsigned_abs p * sum_by (λ f. unsigned_abs (out-Floor f).times) fs
+scaled-times p fs = times_step p fs (int_eq p (pos 0)) refl
 
 -- ---- one floor
 

@@ -154,19 +154,23 @@ add_later ts w v g f other rising most =
     let le = at_most-last v w g ts most in
     add_past (ts ++ (w, g) ∷ []) v f (all_below ts w v g (omega arith) rising)
 
-cons_most : (w v : ℕ) (f : ℤ) (ts : List (ℕ × ℤ)) → v ≤ w → AtMost w ts → AtMost w (cons_term v f ts)
-cons_most w v f ts le h = cons_by v f ts (AtMost w) (λ _. h) (λ _. (le, h))
+cons_each : (P : ℕ → Type 0) (v : ℕ) (f : ℤ) (ts : List (ℕ × ℤ)) → P v → AllByRecursion (λ (t : ℕ × ℤ). P t.0) ts → AllByRecursion (λ (t : ℕ × ℤ). P t.0) (cons_term v f ts)
+cons_each P v f ts here h = cons_by v f ts (AllByRecursion (λ (t : ℕ × ℤ). P t.0)) (λ _. h) (λ _. (here, h))
 
-add_most : (w v : ℕ) (f : ℤ) (ts : List (ℕ × ℤ)) → v ≤ w → AtMost w ts → AtMost w (add_term v f ts)
+add_each : (P : ℕ → Type 0) (v : ℕ) (f : ℤ) (ts : List (ℕ × ℤ)) → P v → AllByRecursion (λ (t : ℕ × ℤ). P t.0) ts → AllByRecursion (λ (t : ℕ × ℤ). P t.0) (add_term v f ts)
 unfolding add_term
-add_most w v f [] le h = cons_most w v f [] le tt
-add_most w v f (t ∷ ts) le h =
-    add_by v f t ts (AtMost w) (λ _. cons_most w v f (t ∷ ts) le h) (λ _. cons_most w v (f +ℤ t.1) ts le h.1) (λ _. (h.0, add_most w v f ts le h.1))
+add_each P v f [] here h = cons_each P v f [] here tt
+add_each P v f (t ∷ ts) here h =
+    add_by v f t ts (AllByRecursion (λ (t : ℕ × ℤ). P t.0)) (λ _. cons_each P v f (t ∷ ts) here h) (λ _. cons_each P v (f +ℤ t.1) ts here h.1) (λ _. (h.0, add_each P v f ts here h.1))
+
+-- what holds of the variables of the terms holds of those of the collected ones
+pub collected-each : (P : ℕ → Type 0) (ts : List (ℕ × ℤ)) → AllByRecursion (λ (t : ℕ × ℤ). P t.0) ts → AllByRecursion (λ (t : ℕ × ℤ). P t.0) (collected_terms ts)
+unfolding collected_terms
+collected-each P [] h = tt
+collected-each P (t ∷ ts) h = add_each P t.0 t.1 (collected_terms ts) h.0 (collected-each P ts h.1)
 
 pub collected-most : (w : ℕ) (ts : List (ℕ × ℤ)) → AtMost w ts → AtMost w (collected_terms ts)
-unfolding collected_terms
-collected-most w [] h = tt
-collected-most w (t ∷ ts) h = add_most w t.0 t.1 (collected_terms ts) h.0 (collected-most w ts h.1)
+collected-most w = collected-each (λ v. v ≤ w)
 
 most-append : (w : ℕ) (xs : List (ℕ × ℤ)) (t : ℕ × ℤ) → t.0 ≤ w → AtMost w xs → AtMost w (xs ++ t ∷ [])
 most-append w [] t le h = (le, tt)

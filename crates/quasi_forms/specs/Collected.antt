@@ -1,5 +1,5 @@
 -- Sums of forms, in which equal variables and equal floors are collected and parts with factor 0 are gone.
-use Rattle.std.specs.Prelude.{ℕ, ℤ, pos, ◌*ℤ◌, ◌≤ℤ◌, not, List, [], ◌∷◌, ◌++◌, map, flat_map, filter}
+use Rattle.std.specs.Prelude.{ℕ, ℤ, pos, ◌*ℤ◌, ◌≤ℤ◌, not, if◌then◌else◌, List, [], ◌∷◌, ◌++◌, map, flat_map, filter}
 use Rattle.std.specs.Ordering.{int_eq}
 use Rattle.affine_rows.specs.declared.quasi.Quasi.{Quasi, Quasi-F, roll-Quasi, out-Quasi, fold-Quasi}
 use Rattle.affine_rows.specs.declared.quasi.Floor.{Floor, Floor-F, roll-Floor, out-Floor}
@@ -34,8 +34,12 @@ collected_floors fs = kept_floors fs fs
 abbrev pub scaled_terms : ℤ → List (ℕ × ℤ) → List (ℕ × ℤ)
 scaled_terms p ts = map (λ t. (t.0, p *ℤ t.1)) ts
 
+abbrev pub multiple_floors : ℤ → List Floor → List Floor
+multiple_floors p fs = map (λ f. with_times (p *ℤ (out-Floor f).times) f) fs
+
+-- by 0 there are no floors, so that they do not count as occurring
 abbrev pub scaled_floors : ℤ → List Floor → List Floor
-scaled_floors p fs = map (λ f. with_times (p *ℤ (out-Floor f).times) f) fs
+scaled_floors p fs = if int_eq p (pos 0) then [] else multiple_floors p fs
 
 -- the divisor is at least 1, and the form under the floor is within its limits, whatever the factor
 pub record IsWide (f : Floor) : Type 0 where
@@ -84,6 +88,10 @@ without_terms vs q = roll-Quasi (record { constant = q.constant; terms = filter 
 -- one form, with the forms put in under its floors: what is put for the variables comes first, in their order
 abbrev pub put_step : List ℕ → List Quasi → Quasi-F Floor Quasi → Quasi
 put_step vs bs q = combined_form (put_parts vs bs q.terms ++ (pos 1, without_terms vs q) ∷ [])
+
+-- the same of a form, over its floors with the others put in
+abbrev pub put_over : List ℕ → List Quasi → Quasi → List Floor → Quasi
+put_over vs bs q floors = put_step vs bs (record { constant = (out-Quasi q).constant; terms = (out-Quasi q).terms; floors = floors })
 
 abbrev pub put_floor_step : Floor-F Floor Quasi → Floor
 put_floor_step f = roll-Floor f

@@ -28,14 +28,21 @@ row_over constant terms = record { constant = constant; terms = collected_terms 
 unfoldable pub flat_row : ℕ → List Floor → Quasi → Row
 flat_row width floors q = row_over (out-Quasi q).constant (flat_terms width floors q)
 
--- a floor of e by c is the number f of its variable: e - c*f is at least 0, and c*f - e + c - 1 is
+-- the terms of e - c*f, for a floor of e by c with the variable f
+abbrev pub rest_terms : ℕ → List Floor → Floor → List (ℕ × ℤ)
+rest_terms width floors f = flat_terms width floors (out-Floor f).inner ++ (floor_var width floors f, neg_ℤ (out-Floor f).by) ∷ []
+
+-- e - c*f is at least 0
+abbrev pub lower_row : ℕ → List Floor → Floor → Row
+lower_row width floors f = row_over (out-Quasi (out-Floor f).inner).constant (rest_terms width floors f)
+
+-- c - 1 - (e - c*f) is at least 0
+abbrev pub upper_row : ℕ → List Floor → Floor → Row
+upper_row width floors f = row_over ((out-Floor f).by -ℤ pos 1 -ℤ (out-Quasi (out-Floor f).inner).constant) (scaled_terms (neg_ℤ (pos 1)) (rest_terms width floors f))
+
+-- the floor's number is that of its variable
 unfoldable pub defining_rows : ℕ → List Floor → Floor → List Row
-defining_rows width floors f =
-    let e = (out-Floor f).inner in
-    let c = (out-Floor f).by in
-    row_over (out-Quasi e).constant (flat_terms width floors e ++ (floor_var width floors f, neg_ℤ c) ∷ [])
-    ∷ row_over (c -ℤ pos 1 -ℤ (out-Quasi e).constant) (scaled_terms (neg_ℤ (pos 1)) (flat_terms width floors e) ++ (floor_var width floors f, c) ∷ [])
-    ∷ []
+defining_rows width floors f = lower_row width floors f ∷ upper_row width floors f ∷ []
 
 unfoldable pub all_defining_rows : ℕ → Quasi → List Row
 all_defining_rows width q = flat_map (defining_rows width (floors_of q)) (floors_of q)

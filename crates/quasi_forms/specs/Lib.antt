@@ -4,3 +4,4 @@ pub mod Limits
 pub mod Affine
 pub mod Placed
 pub mod Flattened
+pub mod Combined

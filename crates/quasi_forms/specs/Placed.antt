@@ -1,10 +1,15 @@
 -- When a form with others in the places of variables is within the limits.
-use Rattle.std.specs.Prelude.{ℕ, List}
-use Rattle.std.specs.List.{AllByRecursion}
+use Rattle.std.specs.Prelude.{ℕ, Bool, true, false, ◌&&◌, if◌then◌else◌, nat_eq, List, [], ◌∷◌}
+use Rattle.std.specs.List.{list_all, AllByRecursion}
 use Rattle.affine_rows.specs.declared.quasi.Quasi.{Quasi}
 use Rattle.affine_rows.specs.declared.quasi.Floor.{Floor, out-Floor, fold-Floor}
 use Rattle.quasi_forms.specs.Collected.{put_form, put_floor_step, put_step}
 use Rattle.quasi_forms.specs.Limits.{floors_in, IsWithin}
+
+-- no variable is there twice
+abbrev pub vars_differ : List ℕ → Bool
+vars_differ [] = true
+vars_differ (v ∷ vs) = list_all (λ u. if nat_eq v u then false else true) vs && vars_differ vs
 
 -- the floor with other forms in the places of the variables under it
 unfoldable pub put_floor : List ℕ → List Quasi → Floor → Floor

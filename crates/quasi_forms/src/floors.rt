@@ -1,11 +1,12 @@
 //! Floors in which those that are alike are collected.
-ghost use Rattle.std.specs.Prelude.{◌≡◌, ◌≢◌, ◌≤◌, ◌<◌, ◌^◌, ◌+◌, ◌-◌, ◌++◌, ◌*ℤ◌, pos, length, take, true, false, IfOk, IfSome, OnOk, Err, sum_by, unsigned_abs};
-ghost use Rattle.std.specs.List.{list_all, list_any};
+ghost use Rattle.std.specs.Prelude.{◌≡◌, ◌≢◌, ◌&&◌, ◌≤◌, ◌<◌, ◌^◌, ◌+◌, ◌-◌, ◌++◌, ◌*ℤ◌, pos, length, take, true, false, IfOk, IfSome, OnOk, Err, sum_by, unsigned_abs};
+ghost use Rattle.std.specs.List.{list_all, list_any, position_or_len};
+ghost use Rattle.std.specs.Ordering.{int_eq};
 ghost use Rattle.std.specs.Option.{is_some};
 ghost use Rattle.affine_rows.specs.declared.quasi.Floor.{Floor, out-Floor};
 ghost use Rattle.affine_rows.specs.Reduced.{fits_entry};
-ghost use Rattle.quasi_forms.specs.Alike.{same_floor};
-ghost use Rattle.quasi_forms.specs.Collected.{with_times, times_of, scaled_floors, kept_floors, collected_floors};
+ghost use Rattle.quasi_forms.specs.Alike.{same_form, same_floor, distinct};
+ghost use Rattle.quasi_forms.specs.Collected.{with_times, times_of, multiple_floors, scaled_floors, kept_floors, collected_floors};
 
 use crate::alike::same_form;
 use crate::fault::FormFault;
@@ -50,6 +51,38 @@ impl WideFloor {
         })
     }
 
+    /// An equal floor.
+    fn copy(&self, alloc: Global) -> Result<WideFloor, AllocError>
+        ensures { IfOk result (λ w. w ≡ self.now) }
+    {
+        Ok(WideFloor {
+            times: self.times,
+            inner: self.inner.copy(alloc)?,
+            by: self.by,
+        })
+    }
+
+    /// The form under the floor.
+    pub(crate) fn inner(&self) -> &Quasi
+        ensures { result.now ≡ (out-Floor self.now).inner }
+    {
+        &self.inner
+    }
+
+    /// The divisor.
+    pub(crate) fn by(&self) -> i64
+        ensures { result ≡ (out-Floor self.now).by }
+    {
+        self.by
+    }
+
+    /// Whether it is of the form by the divisor.
+    fn is_of(&self, inner: &Quasi, by: i64) -> bool
+        ensures { result ≡ (int_eq by (out-Floor self.now).by && same_form inner.now (out-Floor self.now).inner) }
+    {
+        by == self.by && same_form(inner, &self.inner)
+    }
+
     /// Whether the other one is of the same form by the same divisor.
     #[tactic(auto, unfolding(crate::specs::Alike::same_floor))]
     fn is_like(&self, other: &WideFloor) -> bool
@@ -59,7 +92,22 @@ impl WideFloor {
     }
 }
 
-/// Adds the multiples of floors at the end of others.
+/// Adds each floor with a multiple of its factor at the end of others.
+fn push_multiples(
+    alloc: Global,
+    by: i64,
+    floors: &[Floor],
+    made: &mut Vec<WideFloor>,
+) -> Result<(), AllocError>
+    ensures { OnOk result (made.new.items ≡ made.old.items ++ multiple_floors by floors.now) }
+{
+    for floor in floors {
+        made.push(WideFloor::multiple(alloc, by, floor)?)?;
+    }
+    Ok(())
+}
+
+/// Adds the multiples of floors at the end of others. By 0 there are none.
 pub(crate) fn add_multiples(
     alloc: Global,
     by: i64,
@@ -68,10 +116,10 @@ pub(crate) fn add_multiples(
 ) -> Result<(), AllocError>
     ensures { OnOk result (made.new.items ≡ made.old.items ++ scaled_floors by floors.now) }
 {
-    for floor in floors {
-        made.push(WideFloor::multiple(alloc, by, floor)?)?;
+    if by == 0 {
+        return Ok(());
     }
-    Ok(())
+    push_multiples(alloc, by, floors, made)
 }
 
 /// Whether one of the floors is like this one.
@@ -84,6 +132,47 @@ pub(crate) fn is_among(floors: &[WideFloor], floor: &WideFloor) -> bool
         }
     }
     false
+}
+
+/// The place of the first of the floors of the form by the divisor, or how many floors there are.
+pub(crate) fn place_of(floors: &[WideFloor], inner: &Quasi, by: i64) -> usize
+    ensures { result ≡ position_or_len (λ g. int_eq by (out-Floor g).by && same_form inner.now (out-Floor g).inner) floors.now }
+{
+    for at in 0..floors.len() {
+        if floors[at].is_of(inner, by) {
+            return at;
+        }
+    }
+    floors.len()
+}
+
+/// Adds a copy of the floor at a place, if it is the first of those that are alike.
+fn add_first(
+    alloc: Global,
+    floors: &[WideFloor],
+    at: usize,
+    made: &mut Vec<WideFloor>,
+) -> Result<(), AllocError>
+    requires within { at < length floors.now }
+    requires made { made.old.items ≡ distinct same_floor (take at floors.now) }
+    ensures { OnOk result (made.new.items ≡ distinct same_floor (take (at + 1) floors.now)) }
+{
+    let floor = &floors[at];
+    if !is_among(&floors[..at], floor) {
+        made.push(floor.copy(alloc)?)?;
+    }
+    Ok(())
+}
+
+/// The first of those that are alike.
+pub(crate) fn different(alloc: Global, floors: &[WideFloor]) -> Result<Vec<WideFloor>, AllocError>
+    ensures { IfOk result (λ made. made.items ≡ distinct same_floor floors.now) }
+{
+    let mut made = Vec::new(alloc);
+    for at in 0..floors.len() {
+        add_first(alloc, floors, at, &mut made)?;
+    }
+    Ok(made)
 }
 
 /// The factor of the other floor, where it is like this one.

@@ -5,10 +5,10 @@ ghost use Rattle.affine_rows.specs.declared.quasi.Floor.{out-Floor};
 ghost use Rattle.affine_rows.specs.Forms.{ceil_div, sum_count, constant_count, IsSmall, IsFloor};
 ghost use Rattle.affine_rows.specs.Reach.{floor_sum, floor_constant};
 ghost use Rattle.quasi_forms.specs.Alike.{same_floor, distinct};
-ghost use Rattle.quasi_forms.specs.Limits.{floors_within, IsWithin};
+ghost use Rattle.quasi_forms.specs.Limits.{floors_within, floors_of, IsWithin};
 
 use crate::fault::FormFault;
-use crate::floors::{WideFloor, is_among};
+use crate::floors::{WideFloor, different, is_among};
 use affine_rows::{Floor, Form, Quasi};
 use std::alloc::{AllocError, Global};
 
@@ -175,6 +175,15 @@ fn count_distinct(floors: &[WideFloor]) -> usize
         count = count_next(floors, at, count);
     }
     count
+}
+
+/// The different floors of a form, in the order in which they first occur.
+pub(crate) fn floors_of(alloc: Global, form: &Quasi) -> Result<Vec<WideFloor>, AllocError>
+    ensures { IfOk result (λ made. made.items ≡ floors_of form.now) }
+{
+    let mut floors = Vec::new(alloc);
+    add_floors(alloc, form.floors.as_slice(), &mut floors)?;
+    different(alloc, &floors)
 }
 
 /// Whether a form over floors within the limits is within the limits.

@@ -1,13 +1,12 @@
 //! Sums of multiples of forms.
-ghost use Rattle.std.specs.Prelude.{◌≡◌, ◌≢◌, ◌≤◌, ◌≤ℤ◌, ◌^◌, ◌+◌, ◌-◌, ◌*◌, ◌+ℤ◌, ◌*ℤ◌, ◌++◌, [], pos, true, false, All, IfOk, OnOk, Err, sum_by, unsigned_abs};
+ghost use Rattle.std.specs.Prelude.{◌≡◌, ◌≢◌, ◌≤◌, ◌≤ℤ◌, ◌^◌, ◌+◌, ◌*◌, ◌+ℤ◌, ◌*ℤ◌, ◌++◌, ◌∷◌, [], pos, true, false, IfOk, OnOk, Err, unsigned_abs};
 ghost use Rattle.std.specs.List.{list_all};
 ghost use Rattle.std.specs.Int.{int_div_euclid};
-ghost use Rattle.affine_rows.specs.declared.quasi.Quasi.{out-Quasi};
-ghost use Rattle.affine_rows.specs.declared.quasi.Floor.{out-Floor};
 ghost use Rattle.affine_rows.specs.Rows.{Env};
 ghost use Rattle.affine_rows.specs.Forms.{form_at};
 ghost use Rattle.affine_rows.specs.Reduced.{fits_entry};
-ghost use Rattle.quasi_forms.specs.Collected.{IsWide, scaled_terms, scaled_floors, collected_form, sum_form, floor_form};
+ghost use Rattle.quasi_forms.specs.Collected.{collected_form, sum_form, floor_form};
+ghost use Rattle.quasi_forms.specs.Combined.{IsPart, Multiples, IsSum, HasRoom};
 ghost use Rattle.quasi_forms.specs.Limits.{IsWithin};
 
 use crate::fault::FormFault;
@@ -34,7 +33,10 @@ fn plus_product(sum: i128, by: i64, number: i64) -> i128
 }
 
 /// The terms, where no factor passes 2^62 in absolute value.
-fn narrow_terms(alloc: Global, wide: &[(u32, i128)]) -> Result<Listed<(u32, i64)>, FormFault>
+pub(crate) fn narrow_terms(
+    alloc: Global,
+    wide: &[(u32, i128)],
+) -> Result<Listed<(u32, i64)>, FormFault>
     ensures same { IfOk result (λ terms. terms ≡ wide.now) }
     ensures fits { OnOk result (list_all (λ t. fits_entry t.1) wide.now ≡ true) }
     ensures limit { result ≡ Err FormFault.Limit → list_all (λ t. fits_entry t.1) wide.now ≡ false }
@@ -50,9 +52,7 @@ fn narrow_terms(alloc: Global, wide: &[(u32, i128)]) -> Result<Listed<(u32, i64)
 impl Sum {
     /// The empty sum.
     pub(crate) fn new(alloc: Global) -> Sum
-        ensures constant { result.constant ≡ pos 0 }
-        ensures terms { result.terms.items ≡ [] }
-        ensures floors { result.floors.items ≡ [] }
+        ensures { IsSum [] result.constant result.terms.items result.floors.items }
     {
         Sum {
             constant: 0,
@@ -63,10 +63,9 @@ impl Sum {
 
     /// Adds the multiple of a form.
     pub(crate) fn add(&mut self, alloc: Global, by: i64, form: &Quasi) -> Result<(), AllocError>
-        requires { unsigned_abs self.old.constant + unsigned_abs by * unsigned_abs (out-Quasi form.now).constant ≤ 2 ^ 126 }
-        ensures constant { OnOk result (self.new.constant ≡ self.old.constant +ℤ by *ℤ (out-Quasi form.now).constant) }
-        ensures terms { OnOk result (self.new.terms.items ≡ self.old.terms.items ++ scaled_terms by (out-Quasi form.now).terms) }
-        ensures floors { OnOk result (self.new.floors.items ≡ self.old.floors.items ++ scaled_floors by (out-Quasi form.now).floors) }
+        requires part { IsPart form.now }
+        requires room { HasRoom (unsigned_abs by) self.old.constant self.old.terms.items self.old.floors.items }
+        ensures { OnOk result ((ms : Multiples) → IsSum ms self.old.constant self.old.terms.items self.old.floors.items → IsSum (ms ++ (by, form.now) ∷ []) self.new.constant self.new.terms.items self.new.floors.items) }
     {
         self.constant = plus_product(self.constant, by, form.constant);
         add_scaled(form.terms.as_slice(), by, &mut self.terms)?;
@@ -76,9 +75,7 @@ impl Sum {
     /// The sum as a form in which equal variables and floors that are alike are collected. `Limit` comes exactly where it
     /// passes a limit.
     pub(crate) fn collected(self, alloc: Global) -> Result<Form, FormFault>
-        requires terms { sum_by (λ t. unsigned_abs t.1) self.terms.items ≤ 2 ^ 126 }
-        requires floors { sum_by (λ f. unsigned_abs (out-Floor f).times) self.floors.items ≤ 2 ^ 127 - 1 }
-        requires each { All IsWide self.floors.items }
+        requires { HasRoom 0 self.constant self.terms.items self.floors.items }
         ensures form { IfOk result (λ f. f ≡ collected_form self.constant self.terms.items self.floors.items) }
         ensures within { OnOk result (IsWithin (collected_form self.constant self.terms.items self.floors.items)) }
         ensures limit { result ≡ Err FormFault.Limit → IsWithin (collected_form self.constant self.terms.items self.floors.items) → ⊥ }

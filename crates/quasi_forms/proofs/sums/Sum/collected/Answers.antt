@@ -1,4 +1,4 @@
-use Rattle.std.proofs.Common.{◌≡◌, ◌∙◌, true, false, sym, ap, subst, rules, IfOk, OnOk, Err, List, ℕ, ℤ, All, FitsSigned, to_z, of_z}
+use Rattle.std.proofs.Common.{◌≡◌, ◌∙◌, ◌≤◌, ◌^◌, ◌-◌, sum_by, unsigned_abs, true, false, sym, ap, subst, rules, IfOk, OnOk, Err, List, ℕ, ℤ, All, FitsSigned, to_z, of_z}
 use Rattle.std.specs.Int.{w64, w128}
 use Rattle.std.specs.List.{list_all}
 use Rattle.std.proofs.lemmas.Int.{to_z-of_z}
@@ -12,6 +12,7 @@ use Rattle.quasi_forms.specs.Collected.{collected_terms, collected_floors}
 use Rattle.quasi_forms.specs.Limits.{IsWithin}
 use Rattle.quasi_forms.proofs.Errors.{err_same}
 use Rattle.quasi_forms.proofs.SumLimits.{wide_constant, wide_terms, wide_floors, floors_collected, collected-made}
+use Rattle.quasi_forms.proofs.PartSums.{room-terms, room-factors, room-wide}
 use Rattle.quasi_forms.proofs.sums.Sum.collected.Goals as goal
 
 pub returns-in_default-clause-limit : goal.returns-in_default-clause-limit
@@ -34,10 +35,16 @@ returns-in_err-floors-clause-limit c = λ limit within.
     wide_floors c.args.self.constant c.args.self.terms.items c.args.self.floors.items
     (subst (λ (fs : List Floor). list_all (λ f. fits_entry (out-Floor f).times) (collected_floors fs) ≡ false) c.deref-2.ensures.value wide) within
 
+pub collected_terms-requires : goal.collected_terms-requires
+collected_terms-requires c = room-terms c.args.self.constant c.args.self.terms.items c.args.self.floors.items c.requires
+
+pub collected_floors-requires : goal.collected_floors-requires
+collected_floors-requires c = subst (λ (fs : List Floor). sum_by (λ f. unsigned_abs (out-Floor f).times) fs ≤ 2 ^ 127 - 1) (sym c.deref-2.ensures.value) (room-factors c.args.self.constant c.args.self.terms.items c.args.self.floors.items c.requires)
+
 pub limited-requires : goal.limited-requires
 limited-requires c =
     let fit = subst (λ (fs : List Floor). list_all (λ f. fits_entry (out-Floor f).times) (collected_floors fs) ≡ true) c.deref-2.ensures.value c.in_ok-floors.ensures.fits in
-    let all = floors_collected c.args.self.floors.items c.requires.each fit in
+    let all = floors_collected c.args.self.floors.items (room-wide c.args.self.constant c.args.self.terms.items c.args.self.floors.items c.requires) fit in
     let made : c.in_ok-floors.floors ≡ collected_floors c.args.self.floors.items = c.in_ok-floors.ensures.made ∙ ap collected_floors c.deref-2.ensures.value in
     simp out-roll-Quasi (subst (All IsFloor) (sym made) all)
 

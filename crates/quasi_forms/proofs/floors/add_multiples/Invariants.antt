@@ -1,6 +1,0 @@
-use Rattle.std.proofs.Common.{◌≡◌, ◌++◌, take}
-use Rattle.quasi_forms.specs.Collected.{scaled_floors}
-use Rattle.quasi_forms.proofs.floors.add_multiples.Given as goal
-
-abbrev pub invariant-loop-floor : goal.invariant-loop-floor
-invariant-loop-floor l = l.made.items ≡ l.initial.made.items ++ scaled_floors l.fn.by (take l.floor-index l.floors)
