@@ -12,6 +12,8 @@ mod jobs;
 #[cfg(test)]
 mod kernels;
 #[cfg(test)]
+mod kinds;
+#[cfg(test)]
 mod orders;
 #[cfg(test)]
 mod points;

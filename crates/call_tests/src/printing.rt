@@ -8,6 +8,7 @@ use std::alloc::{AllocError, Global};
 use std::marker::Brand;
 use std::sync::ledger::{Blank, Ledger};
 use std::test::Fail;
+use subst_rules::{collect_uses, expand};
 use wrap_words::Kind;
 
 fn name(alloc: Global, text: &str) -> Result<Name, AllocError> {
@@ -190,7 +191,31 @@ fn text_of(alloc: Global, kernel: &Kernel) -> Option<String> {
     String::from_utf8(bytes).ok()
 }
 
-fn texts<L: Ledger>(alloc: Global, blank: Blank) -> Result<[Option<String>; 2], ExprFault>
+/// The text of the kernel with its rules replaced.
+fn expanded_text(alloc: Global, kernel: &Kernel) -> Option<String> {
+    let expanded = expand(alloc, kernel).ok()?;
+    text_of(alloc, &expanded)
+}
+
+/// Whether `s` alone uses the first rule, without arguments.
+fn is_used_by_s(alloc: Global, kernel: &Kernel) -> Option<bool> {
+    let uses = collect_uses(alloc, kernel, 0).ok()?;
+    Some(match uses.as_slice() {
+        [(id, arguments)] => id.as_str() == "s" && arguments.is_empty(),
+        _ => false,
+    })
+}
+
+/// The texts of the split and of the marked kernel, and of the marked one expanded.
+#[derive(Drop)]
+struct Printed {
+    split: Option<String>,
+    marked: Option<String>,
+    expanded: Option<String>,
+    used: Option<bool>,
+}
+
+fn texts<L: Ledger>(alloc: Global, blank: Blank) -> Result<Printed, ExprFault>
     requires name { blank.name ≡ L.name }
     requires parts { blank.parts ≡ L.parts }
     requires some { 0 < blank.parts }
@@ -198,7 +223,12 @@ fn texts<L: Ledger>(alloc: Global, blank: Blank) -> Result<[Option<String>; 2], 
     let mut steps = Steps::<L>::open(blank);
     let split = split_kernel(alloc, &mut steps)?;
     let marked = marked_kernel(alloc, &mut steps)?;
-    Ok([text_of(alloc, &split), text_of(alloc, &marked)])
+    Ok(Printed {
+        split: text_of(alloc, &split),
+        marked: text_of(alloc, &marked),
+        expanded: expanded_text(alloc, &marked),
+        used: is_used_by_s(alloc, &marked),
+    })
 }
 
 const SPLIT: &str = "kernel 1
@@ -218,10 +248,21 @@ t += sum((i, j), min(1*i, if((t < 3), f(), cast(int64, -t)))) {id=s, dep=*w:x, i
 # priority j i
 ";
 
+const EXPANDED: &str = "kernel 1
+domain [n] -> { [i, j] }
+assume n = 0
+temp t: uint64[2, 3] # local
+t += sum((i, j), min(1*i, if((t < 3), 5000000000, cast(int64, -t)))) {id=s, dep=*w:x, if=i - 1 >= 0 and (i != n)}
+# tag i g.1
+# priority j i
+";
+
 #[test]
 fn kernels_are_printed(rt: HostRuntime) -> Result<(), Fail> {
-    let [split, marked] = texts::<Brand>(rt.alloc(), Blank::new(1))?;
-    assert_eq!(rt; split.as_deref(), Some(SPLIT));
-    assert_eq!(rt; marked.as_deref(), Some(MARKED));
+    let texts = texts::<Brand>(rt.alloc(), Blank::new(1))?;
+    assert_eq!(rt; texts.split.as_deref(), Some(SPLIT));
+    assert_eq!(rt; texts.marked.as_deref(), Some(MARKED));
+    assert_eq!(rt; texts.expanded.as_deref(), Some(EXPANDED));
+    assert_eq!(rt; texts.used, Some(true));
     Ok(())
 }

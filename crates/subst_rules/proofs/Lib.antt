@@ -1,0 +1,12 @@
+pub mod Bools
+pub mod Walking
+pub mod Fusion
+pub mod Made
+pub mod SizeLaws
+pub mod Deciding
+pub mod Agreeing
+pub mod Expanding
+pub mod Limiting
+pub mod InOrder
+pub mod Readiness
+pub mod Replacing

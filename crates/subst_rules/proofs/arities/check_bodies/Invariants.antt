@@ -1,0 +1,6 @@
+use Rattle.std.proofs.Common.{◌≡◌, drop}
+use Rattle.subst_rules.specs.Refused.{first_in, use_refusal}
+use Rattle.subst_rules.proofs.arities.check_bodies.Given as goal
+
+abbrev pub invariant-loop-body : goal.invariant-loop-body
+invariant-loop-body l = first_in (first_in (use_refusal l.rules 0)) (drop l.body-index l.bodies) ≡ first_in (first_in (use_refusal l.rules 0)) l.bodies

@@ -1,0 +1,6 @@
+use Rattle.std.proofs.Common.{◌≡◌, drop}
+use Rattle.subst_rules.specs.Refused.{first_in, insn_refusal}
+use Rattle.subst_rules.proofs.arities.check_insns.Given as goal
+
+abbrev pub invariant-loop-insn : goal.invariant-loop-insn
+invariant-loop-insn l = first_in (insn_refusal l.rules) (drop l.insn-index l.insns) ≡ first_in (insn_refusal l.rules) l.insns

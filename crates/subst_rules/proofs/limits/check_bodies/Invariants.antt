@@ -1,0 +1,6 @@
+use Rattle.std.proofs.Common.{◌≡◌, drop}
+use Rattle.subst_rules.specs.Refused.{body_refusal_by, first_in}
+use Rattle.subst_rules.proofs.limits.check_bodies.Given as goal
+
+abbrev pub invariant-loop-rule : goal.invariant-loop-rule
+invariant-loop-rule l = first_in (body_refusal_by l.table) (drop l.rule-index l.rules) ≡ first_in (body_refusal_by l.table) l.rules

@@ -1,0 +1,10 @@
+use Rattle.std.proofs.Common.{◌≡◌, ◌≢◌, List, Some, subst}
+use Rattle.std.specs.Result.{IfErr}
+use Rattle.expr_tree.specs.declared.build.ExprFault.TheVariants.{OutOfMemory}
+use Rattle.expr_tree.specs.Rewritten.{outcome_of}
+use Rattle.kernel_ir.specs.declared.kernel.SubstRule.{SubstRule}
+use Rattle.subst_rules.specs.Replaced.{replacing}
+use Rattle.subst_rules.proofs.rounds.next_tree.Goals as goal
+
+pub returns-clause-refused : goal.returns-clause-refused
+returns-clause-refused c = subst (λ (rs : List SubstRule). IfErr c.replaced.result (λ f. f ≢ OutOfMemory → (outcome_of (replacing rs) c.args.tree.now).refusal ≡ Some f)) c.as_slice.ensures c.replaced.ensures.refused

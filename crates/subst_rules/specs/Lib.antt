@@ -1,0 +1,8 @@
+pub mod Uses
+pub mod Walks
+pub mod Sizes
+pub mod Fits
+pub mod Replaced
+pub mod Refused
+pub mod Kernels
+pub mod Ready

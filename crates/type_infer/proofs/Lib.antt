@@ -1,0 +1,13 @@
+mod Walks
+mod SameCalls
+mod Filling
+mod LeadTables
+mod KindTables
+mod Marks
+mod AllowedCalls
+mod KernelRules
+mod Agreement
+mod KernelTyped
+mod InferredFormed
+mod Validity
+mod RowFacts

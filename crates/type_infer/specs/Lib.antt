@@ -1,0 +1,9 @@
+pub mod Leads
+pub mod Judged
+pub mod Inferred
+pub mod Typing
+pub mod Tables
+pub mod Orders
+pub mod Graphs
+pub mod Laws
+pub mod Rows
