@@ -1,5 +1,5 @@
 -- What small texts say.
-use Rattle.std.specs.Prelude.{◌≡◌, ℕ, true, false, List, [], ◌∷◌, codes}
+use Rattle.std.specs.Prelude.{◌≡◌, ℕ, true, false, Some, List, [], ◌∷◌, codes}
 use Rattle.kernel_grammar.specs.declared.item.Relation.TheVariants.{LessEqual, Less}
 use Rattle.std.specs.List.{list_all}
 use Rattle.kernel_grammar.specs.declared.item.Item.{Item}
@@ -22,7 +22,7 @@ use Rattle.kernel_grammar.specs.Samples.{spaced, name, doubling_text, doubling}
 
 -- A sign before a name binds tightest, a shift loosest.
 abbrev pub ShiftsAreLoose : Type 0
-ShiftsAreLoose = IsExpression (spaced "- x * y << 2") (name "x" ∷ Prefix prefix.Negate ∷ name "y" ∷ Infix infixed.Multiply ∷ ShiftLeft 2 ∷ [])
+ShiftsAreLoose = IsExpression (spaced "- x * y << 2") (name "x" ∷ Prefix prefix.Negate ∷ name "y" ∷ Infix infixed.Multiply ∷ ShiftLeft (Some 2) ∷ [])
 
 -- Equal operators group to the left.
 abbrev pub SumsGroupToTheLeft : Type 0
@@ -34,7 +34,7 @@ NamesAreCompared = IsExpression (spaced "a < b") (name "a" ∷ name "b" ∷ Infi
 
 -- A number before a name is their product.
 abbrev pub NumbersMultiply : Type 0
-NumbersMultiply = IsExpression (spaced "2 n") (Number 2 ∷ name "n" ∷ Infix infixed.Multiply ∷ [])
+NumbersMultiply = IsExpression (spaced "2 n") (Number (Some 2) ∷ name "n" ∷ Infix infixed.Multiply ∷ [])
 
 -- A bare name in the first place of `min` is kept as a name.
 abbrev pub BareFirst : Type 0
@@ -50,18 +50,18 @@ TwoListedFirst = IsExpression (spaced "min ( ( i , j ) , i )") (name "i" ∷ Fol
 
 -- Anything else is a value.
 abbrev pub ValueFirst : Type 0
-ValueFirst = IsExpression (spaced "min ( i + 1 , 2 )") (name "i" ∷ Number 1 ∷ Infix infixed.Add ∷ Number 2 ∷ Infix (infixed.Extreme Min) ∷ [])
+ValueFirst = IsExpression (spaced "min ( i + 1 , 2 )") (name "i" ∷ Number (Some 1) ∷ Infix infixed.Add ∷ Number (Some 2) ∷ Infix (infixed.Extreme Min) ∷ [])
 
 -- Each list is compared with the next.
 abbrev pub ListsAreCompared : Type 0
 ListsAreCompared = IsLine (spaced "assume 0 <= i , j < n") (Assume (record {
-  first = (Number 0 ∷ []) ∷ [];
+  first = (Number (Some 0) ∷ []) ∷ [];
   rest = (LessEqual, (name "i" ∷ []) ∷ (name "j" ∷ []) ∷ []) ∷ (Less, (name "n" ∷ []) ∷ []) ∷ [];
 } ∷ []))
 
 -- A temporary with a shape.
 abbrev pub ShapesAreNumbers : Type 0
-ShapesAreNumbers = IsLine (spaced "temp t : uint32 [ 4 , 2 ]") (Temp (codes "t") U32 (4 ∷ 2 ∷ []))
+ShapesAreNumbers = IsLine (spaced "temp t : uint32 [ 4 , 2 ]") (Temp (codes "t") U32 (Some 4 ∷ Some 2 ∷ []))
 
 -- A substitution rule.
 abbrev pub RulesHaveParameters : Type 0
@@ -70,8 +70,8 @@ RulesHaveParameters = IsLine (spaced "f ( x ) := x") (Rule (codes "f") (codes "x
 -- An instruction with all that may stand in one.
 abbrev pub OptionsAreRead : Type 0
 OptionsAreRead = IsLine (spaced "< int64 > t min = 2 { id = w , dep = * u : v , inames = i , if = i < 3 }")
-    (Insn (Of I64) (codes "t") [] (Update (folding.Extreme Min)) (Number 2 ∷ [])
-    (Id (codes "w") ∷ Dep false (codes "u" ∷ codes "v" ∷ []) ∷ Inames (codes "i" ∷ []) ∷ If (name "i" ∷ Number 3 ∷ Infix (infixed.Compare Less) ∷ []) ∷ []))
+    (Insn (Of I64) (codes "t") [] (Update (folding.Extreme Min)) (Number (Some 2) ∷ [])
+    (Id (codes "w") ∷ Dep false (codes "u" ∷ codes "v" ∷ []) ∷ Inames (codes "i" ∷ []) ∷ If (name "i" ∷ Number (Some 3) ∷ Infix (infixed.Compare Less) ∷ []) ∷ []))
 
 -- The smallest kernel is a file.
 abbrev pub DoublingIsAFile : Type 0

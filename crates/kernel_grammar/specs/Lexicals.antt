@@ -1,6 +1,7 @@
 -- Texts as lists of tokens that hold their bytes.
 use Prim.Native.String.{String}
-use Rattle.std.specs.Prelude.{ℕ, Bool, true, false, List, [], ◌∷◌, ◌++◌, map, codes}
+use Rattle.std.specs.Prelude.{ℕ, ◌^◌, nat_lt, Bool, true, false, if◌then◌else◌, List, [], ◌∷◌, ◌++◌, map, codes, Option, Some, None}
+use Rattle.text_reader.specs.Numbers.{value_of}
 use Rattle.text_reader.specs.declared.token.Class.{Class}
 use Rattle.text_reader.specs.declared.token.Class.TheVariants as class
 use Rattle.text_reader.specs.declared.token.Token.{Token}
@@ -27,6 +28,10 @@ key text = word (codes text)
 -- a sign that the grammar quotes
 abbrev pub mark : String → Lexical
 mark text = sign (codes text)
+
+-- the number that digits write, or none where it passes 18446744073709551615
+abbrev pub number_in : List ℕ → Option ℕ
+number_in digits = if nat_lt (value_of digits) (2 ^ 64) then Some (value_of digits) else None
 
 -- a token of this class with these bytes
 abbrev pub lexical : Class → List ℕ → Lexical

@@ -1,6 +1,6 @@
 -- Small texts, and what they say.
 use Prim.Native.String.{String}
-use Rattle.std.specs.Prelude.{ℕ, true, false, List, [], ◌∷◌, ◌++◌, ◌==◌, map, codes, if◌then◌else◌}
+use Rattle.std.specs.Prelude.{ℕ, true, false, Some, List, [], ◌∷◌, ◌++◌, ◌==◌, map, codes, if◌then◌else◌}
 use Rattle.std.specs.Char.{is_ascii_digit}
 use Rattle.wrap_words.specs.declared.kind.Kind.TheVariants.{I32}
 use Rattle.text_reader.specs.Bytes.{begins_word}
@@ -55,13 +55,13 @@ doubling_text = lines (
 -- `domain [n] -> { [i] : 0 <= i < n }`
 abbrev pub doubling_domain : Item
 doubling_domain = Domain (codes "n" ∷ []) (codes "i" ∷ []) (record {
-  first = (Number 0 ∷ []) ∷ [];
+  first = (Number (Some 0) ∷ []) ∷ [];
   rest = (LessEqual, (name "i" ∷ []) ∷ []) ∷ (Less, (name "n" ∷ []) ∷ []) ∷ [];
 } ∷ [])
 
 -- `out[i] = 2*a[i]`
 abbrev pub doubling_insn : Item
-doubling_insn = Insn Not (codes "out") ((name "i" ∷ []) ∷ []) Plain (Number 2 ∷ name "i" ∷ Index (codes "a") 1 ∷ Infix Multiply ∷ []) []
+doubling_insn = Insn Not (codes "out") ((name "i" ∷ []) ∷ []) Plain (Number (Some 2) ∷ name "i" ∷ Index (codes "a") 1 ∷ Infix Multiply ∷ []) []
 
 abbrev pub doubling : KernelFile
 doubling = record {

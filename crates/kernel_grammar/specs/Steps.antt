@@ -1,6 +1,5 @@
 -- The steps of each expression.
 use Rattle.std.specs.Prelude.{◌≡◌, ℕ, List, [], ◌∷◌, ◌++◌, length, flat_map}
-use Rattle.text_reader.specs.Numbers.{value_of}
 use Rattle.kernel_grammar.specs.declared.item.Relation.{Relation}
 use Rattle.kernel_grammar.specs.declared.item.Relation.TheVariants as relation
 use Rattle.kernel_grammar.specs.declared.step.Step.{Step}
@@ -11,7 +10,7 @@ use Rattle.kernel_grammar.specs.declared.step.Infix.TheVariants as infixed
 use Rattle.kernel_grammar.specs.declared.step.Extreme.{Extreme}
 use Rattle.kernel_grammar.specs.declared.step.Folding.TheVariants as folding
 use Rattle.kernel_grammar.specs.Words.{words_of}
-use Rattle.kernel_grammar.specs.Lexicals.{Lexical, word, sign}
+use Rattle.kernel_grammar.specs.Lexicals.{Lexical, number_in, word, sign}
 use Rattle.kernel_grammar.specs.Trees.{Rel, at_most, less, at_least, more, equal, equals, Over, bare, names}
 use Rattle.kernel_grammar.specs.Trees.{Or, or_of, or, And, and_of, and, Not, not_of, not, Cmp, cmp_of, related, unequal, Bor, bor_of, bor, Bxor, bxor_of, bxor, Band, band_of, band, Shift, shift_of, left, right, Sum, sum_of, plus, minus, Sums, one, first, Prod, prod_of, times, quotient, remainder, Unary, unary_of, negated, inverted, Atom, digits, multiple, named, indexed, called, called_at, sum, product, extreme, extreme_over, cast, choice, grouped}
 use Rattle.kernel_grammar.specs.Spelling.{or_text}
@@ -78,8 +77,8 @@ abbrev mutual
 
   pub shift_steps : Shift → List Step
   shift_steps (shift_of a) = sum_steps a
-  shift_steps (left a count) = shift_steps a ++ step.ShiftLeft (value_of count) ∷ []
-  shift_steps (right a count) = shift_steps a ++ step.ShiftRight (value_of count) ∷ []
+  shift_steps (left a count) = shift_steps a ++ step.ShiftLeft (number_in count) ∷ []
+  shift_steps (right a count) = shift_steps a ++ step.ShiftRight (number_in count) ∷ []
 
   pub sum_steps : Sum → List Step
   sum_steps (sum_of a) = prod_steps a
@@ -102,8 +101,8 @@ abbrev mutual
   unary_steps (inverted a) = unary_steps a ++ step.Prefix prefix.Invert ∷ []
 
   pub atom_steps : Atom → List Step
-  atom_steps (digits d) = step.Number (value_of d) ∷ []
-  atom_steps (multiple d name) = postfix (step.Number (value_of d) ∷ []) (step.Name name.word ∷ []) infixed.Multiply
+  atom_steps (digits d) = step.Number (number_in d) ∷ []
+  atom_steps (multiple d name) = postfix (step.Number (number_in d) ∷ []) (step.Name name.word ∷ []) infixed.Multiply
   atom_steps (named name) = step.Name name.word ∷ []
   atom_steps (indexed name places) = joined (sums_steps places) ++ step.Index name.word (length (sums_steps places)) ∷ []
   atom_steps (called name) = step.Call name.word 0 ∷ []

@@ -1,6 +1,5 @@
 -- What the lines of a file say.
 use Rattle.std.specs.Prelude.{◌≡◌, true, false, not, List, [], ◌∷◌, map, Option, Some, None}
-use Rattle.text_reader.specs.Numbers.{value_of}
 use Rattle.kernel_grammar.specs.declared.step.Step.{Step}
 use Rattle.kernel_grammar.specs.declared.item.Item as item
 use Rattle.kernel_grammar.specs.declared.item.Item.TheVariants as said
@@ -10,7 +9,7 @@ use Rattle.kernel_grammar.specs.declared.item.InsnOption.TheVariants as choice
 use Rattle.kernel_grammar.specs.Words.{words_of}
 use Rattle.kernel_grammar.specs.Trees.{Sums}
 use Rattle.kernel_grammar.specs.Steps.{relation_of, or_steps, sums_steps}
-use Rattle.kernel_grammar.specs.Lexicals.{Lexical}
+use Rattle.kernel_grammar.specs.Lexicals.{Lexical, number_in}
 use Rattle.kernel_grammar.specs.Lines.{Chain, InsnOption, id, dep, inames, condition, Line, domain, assume, input, output, temp, rule, insn, line_text}
 
 -- lists compared, with the relations between them
@@ -43,7 +42,7 @@ item_of (domain known made conds) = said.Domain (words_of known) (words_of made)
 item_of (assume chain chains) = said.Assume (map chain_of (chain ∷ chains))
 item_of (input name kind shape) = said.Array name.word kind (sums_steps shape) false
 item_of (output name kind shape) = said.Array name.word kind (sums_steps shape) true
-item_of (temp name kind shape) = said.Temp name.word kind (map value_of shape)
+item_of (temp name kind shape) = said.Temp name.word kind (map number_in shape)
 item_of (rule name params body) = said.Rule name.word (words_of params) (or_steps body)
 item_of (insn i) = said.Insn i.declared i.cell.word (place_of i.place) i.stored (or_steps i.value) (options_of i.options)
 

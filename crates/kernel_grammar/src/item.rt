@@ -45,7 +45,8 @@ pub enum InsnOption {
 }
 
 /// What a line says. Names before the arrow of a domain are `known`, those behind it `inames`. An array may be stored to
-/// where `stored` holds. A temporary's shape and an instruction's place are empty for a scalar.
+/// where `stored` holds. A temporary's shape and an instruction's place are empty for a scalar;
+/// a number of a shape is none where it passes 18446744073709551615.
 #[derive(Drop)]
 pub enum Item {
     Domain {
@@ -65,7 +66,7 @@ pub enum Item {
     Temp {
         name: Name,
         kind: Kind,
-        shape: Listed<u64>,
+        shape: Listed<Option<u64>>,
     },
     Rule {
         name: Name,

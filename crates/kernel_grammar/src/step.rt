@@ -48,7 +48,8 @@ pub enum Folding {
 /// puts its own value in their place.
 #[derive(Drop)]
 pub enum Step {
-    Number(u64),
+    /// A number, or none where it passes 18446744073709551615.
+    Number(Option<u64>),
     Name(Name),
     /// A read of a cell at so many subscripts, at least one.
     Index {
@@ -62,8 +63,9 @@ pub enum Step {
     },
     Prefix(Prefix),
     Infix(Infix),
-    ShiftLeft(u64),
-    ShiftRight(u64),
+    /// A shift by a number, or by none where it passes 18446744073709551615.
+    ShiftLeft(Option<u64>),
+    ShiftRight(Option<u64>),
     Cast(Kind),
     /// The choice of the second or third operand by the first.
     Choose,

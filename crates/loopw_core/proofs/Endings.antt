@@ -4,7 +4,8 @@ use Rattle.std.proofs.Common.{refl, sym, ap, subst, ◌∙◌, arith, inl, inr, 
 use Rattle.host_io.specs.declared.host.ReadError.{ReadError}
 use Rattle.host_io.specs.declared.host.ReadError.TheVariants.{TooLong, Failed as not_read}
 use Rattle.host_io.specs.Told.{Told, IsFile, IsLongerThan, ReadsAtMost, Rose, OpenMayFail, after_out, FailsOutAfter}
-use Rattle.loopw_core.specs.Lines.{refusal_line, read_fault_line, too_long}
+use Rattle.refusal_lines.specs.Lines.{refusal_line}
+use Rattle.loopw_core.specs.Lines.{read_fault_line, too_long}
 use Rattle.loopw_core.specs.Compiled.{IsRightCode}
 use Rattle.loopw_core.specs.Ends.{ReadsKernel, SaysOrNot, Wrote, WantsMemory, Ends}
 

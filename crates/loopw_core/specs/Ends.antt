@@ -5,7 +5,8 @@ use Rattle.host_io.specs.Told.{Told, Rose, IsFile, IsLongerThan, OpenMayFail, Re
 use Rattle.first_form.specs.declared.form.FirstForm.{FirstForm}
 use Rattle.first_form.specs.Form.{IsFile as IsKernelFile}
 use Rattle.loopw_core.specs.Words.{IsWrite}
-use Rattle.loopw_core.specs.Lines.{read_fault_line, refusal_line, too_long}
+use Rattle.refusal_lines.specs.Lines.{refusal_line}
+use Rattle.loopw_core.specs.Lines.{read_fault_line, too_long}
 use Rattle.loopw_core.specs.Compiled.{IsRightCode, IsRefusedForm}
 
 -- The line was written on err, or a front of it before a write failed; nothing else changed.

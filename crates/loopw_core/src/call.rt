@@ -1,14 +1,16 @@
 //! The top call.
 ghost use Rattle.std.specs.Prelude.{◌≡◌, ◌≢◌, ◌↔◌, ◌≤◌};
 ghost use Rattle.loopw_core.specs.Words.{IsNoForm, bytes_of_words};
-ghost use Rattle.loopw_core.specs.Lines.{usage_line, refusal_line, read_fault_line, too_long};
+ghost use Rattle.refusal_lines.specs.Lines.{refusal_line};
+ghost use Rattle.loopw_core.specs.Lines.{usage_line, read_fault_line, too_long};
 ghost use Rattle.loopw_core.specs.Ends.{Says, SaysOrNot, Wrote, Ends, OfWords, WritesRightCode, FailsToWrite, Refuses, FailsToRead, WantsMemory, Completes};
 
 use crate::compile::{c_text, refused_length};
-use crate::lines::{read_fault, refusal_text, usage};
+use crate::lines::{read_fault, usage};
 use crate::words::kernel_name;
 use host_io::{Host, ReadError, read_all, write_all, write_all_err};
 use kernel_ir::{Fault, Refusal};
+use refusal_lines::refusal_text;
 use std::alloc::{AllocError, Global};
 
 const DONE: u8 = 0;
