@@ -16,8 +16,8 @@ use Rattle.text_reader.specs.declared.place.Place.{Place}
 use Rattle.text_reader.specs.Bytes.{is_feed, is_words, begins_word, goes_on, kind_at}
 use Rattle.text_reader.specs.Lexemes.{Lexed, is_run, kind_of, IsSign, IsLexeme, text_of, AreLexemes}
 use Rattle.text_reader.specs.Tokens.{origin, behind, behind_all, token_of, tokens_of, last_end}
-use Rattle.text_reader.specs.Limits.{bytes_of}
-use Rattle.text_reader.specs.Spelling.{is_of_word, is_sign, IsSpelled}
+use Rattle.text_reader.specs.Spelling.{is_of_word, is_sign, IsSpelled, IsSpelledIn}
+use Rattle.text_reader.specs.Progress.{IsReadTo}
 use Rattle.text_reader.specs.Laws.{HasSpelledTokens}
 use Rattle.text_reader.proofs.ByteLaws.{word_tests}
 use Rattle.text_reader.proofs.LinePlaces.{line_end_is}
@@ -70,9 +70,6 @@ part_is front text more bytes at e f =
     let count : (at + length text) - at ≡ length text = omega arith in
     rw (rest, count) (take_at text more (length text) refl)
 
-abbrev IsSpelledIn : Form → List ℕ → declared.Token → Type 0
-IsSpelledIn form bytes token = IsSpelled form token.class (bytes_of bytes token)
-
 abbrev SpellsAll : Form → List ℕ → List declared.Token → Type 0
 SpellsAll form bytes tokens = All (IsSpelledIn form bytes) tokens
 
@@ -83,15 +80,15 @@ one_spelled form bytes front text more p (Token class) e f h =
     let token : declared.Token = record { line = p.line; from = p.at; to = p.at + length text; class = class } in
     All-cons (IsSpelledIn form bytes) token [] (subst (λ (z : List ℕ). IsSpelled form class z) (sym (part_is front text more bytes p.at e f)) (lexeme_spelled form class text more h)) (All-nil (IsSpelledIn form bytes))
 
-all_spelled : (form : Form) (bytes front : List ℕ) (p : Place) (xs : List Lexed) → front ++ text_of xs ≡ bytes → p.at ≡ length front → AreLexemes form xs [] → SpellsAll form bytes (tokens_of p xs)
-all_spelled form bytes front p [] e f h = All-nil (IsSpelledIn form bytes)
-all_spelled form bytes front p (x ∷ xs) e f h =
+all_spelled : (form : Form) (bytes front rest : List ℕ) (p : Place) (xs : List Lexed) → front ++ (text_of xs ++ rest) ≡ bytes → p.at ≡ length front → AreLexemes form xs rest → SpellsAll form bytes (tokens_of p xs)
+all_spelled form bytes front rest p [] e f h = All-nil (IsSpelledIn form bytes)
+all_spelled form bytes front rest p (x ∷ xs) e f h =
     let next = behind p x.piece (length x.text) in
-    let more = text_of xs ++ [] in
-    let whole : front ++ (x.text ++ more) ≡ bytes = ap (λ (z : List ℕ). front ++ (x.text ++ z)) (append-nil (text_of xs)) ∙ e in
-    let split : (front ++ x.text) ++ text_of xs ≡ bytes = append_assoc front x.text (text_of xs) ∙ e in
+    let more = text_of xs ++ rest in
+    let whole : front ++ (x.text ++ more) ≡ bytes = ap (λ (z : List ℕ). front ++ z) (sym (append_assoc x.text (text_of xs) rest)) ∙ e in
+    let split : (front ++ x.text) ++ more ≡ bytes = append_assoc front x.text more ∙ whole in
     let at : next.at ≡ length (front ++ x.text) = omega (arith, behind_at p x.piece (length x.text), length-append front x.text) in
-    All-append (IsSpelledIn form bytes) (token_of p x.piece (length x.text)) (tokens_of next xs) (one_spelled form bytes front x.text more p x.piece whole f h.0) (all_spelled form bytes (front ++ x.text) next xs split at h.1)
+    All-append (IsSpelledIn form bytes) (token_of p x.piece (length x.text)) (tokens_of next xs) (one_spelled form bytes front x.text more p x.piece whole f h.0) (all_spelled form bytes (front ++ x.text) rest next xs split at h.1)
 
 end_spelled : (form : Form) (bytes : List ℕ) (p : Place) (b : Bool) → SpellsAll form bytes (if b then record { line = p.line; from = p.at; to = p.at; class = LineEnd } ∷ [] else [])
 end_spelled form bytes p true =
@@ -104,4 +101,7 @@ pub spelled_tokens : HasSpelledTokens
 spelled_tokens form bytes tokens h =
     let p = behind_all origin h.lexemes in
     subst (λ (ts : List declared.Token). SpellsAll form bytes ts) (sym h.listed)
-    (All-append (IsSpelledIn form bytes) (tokens_of origin h.lexemes) (last_end p) (all_spelled form bytes [] origin h.lexemes h.text refl h.are) (end_spelled form bytes p (nat_lt p.start p.at)))
+    (All-append (IsSpelledIn form bytes) (tokens_of origin h.lexemes) (last_end p) (all_spelled form bytes [] [] origin h.lexemes (append-nil (text_of h.lexemes) ∙ h.text) refl h.are) (end_spelled form bytes p (nat_lt p.start p.at)))
+
+pub front_spelled : (form : Form) (bytes rest : List ℕ) (place : Place) (tokens : List declared.Token) → IsReadTo form bytes rest place tokens → SpellsAll form bytes tokens
+front_spelled form bytes rest place tokens h = subst (λ (ts : List declared.Token). SpellsAll form bytes ts) (sym h.listed) (all_spelled form bytes [] rest origin h.lexemes h.text refl h.are)

@@ -1,5 +1,5 @@
 -- The bytes of tokens are bytes of the text.
-use Rattle.std.proofs.Common.{◌≡◌, ◌≤◌, ◌+◌, ℕ, Bool, true, false, List, [], ◌∷◌, ◌++◌, length, drop, sym, ap, subst, length-append, arith, if◌then◌else◌, nat_lt}
+use Rattle.std.proofs.Common.{◌≡◌, ◌<◌, ◌≤◌, ◌+◌, ℕ, Bool, true, false, List, [], ◌∷◌, ◌++◌, length, drop, sym, ap, subst, length-append, arith, if◌then◌else◌, nat_lt}
 use Rattle.std.specs.List.{All}
 use Rattle.std.proofs.lemmas.List.{drop_all}
 use Rattle.std.proofs.lemmas.List.Elements.{All-nil, All-append, All-cons}
@@ -9,9 +9,10 @@ use Rattle.text_reader.specs.declared.token.Class.TheVariants.{LineEnd}
 use Rattle.text_reader.specs.declared.lexeme.Piece.{Piece}
 use Rattle.text_reader.specs.declared.lexeme.Piece.TheVariants.{Blank, Comment, Token}
 use Rattle.text_reader.specs.declared.place.Place.{Place}
-use Rattle.text_reader.specs.Lexemes.{Lexed, text_of}
+use Rattle.text_reader.specs.Lexemes.{Lexed, text_of, AreLexemes}
 use Rattle.text_reader.specs.Tokens.{origin, behind, behind_all, token_of, tokens_of, last_end, IsWithin, IsTokensOf}
 use Rattle.text_reader.specs.Progress.{IsReadTo}
+use Rattle.text_reader.specs.Laws.{HasFewTokens}
 use Rattle.text_reader.proofs.ReadOn.{read_end}
 use Rattle.text_reader.proofs.ReadSteps.{behind_at}
 
@@ -54,3 +55,28 @@ pub whole_within : (form : Form) (bytes : List ℕ) (place : Place) (tokens new 
 whole_within form bytes place tokens new h all is =
     let read = subst (λ (z : List ℕ). IsReadTo form bytes z place tokens) (drop_all place.at bytes all) h in
     subst (λ (ts : List declared.Token). All (IsWithin bytes) ts) (sym is) (tokens_within form bytes (tokens ++ last_end place) (read_end form bytes place tokens read))
+
+one_few : (p : Place) (piece : Piece) (n : ℕ) → 0 < n → length (token_of p piece n) ≤ n
+one_few p Blank n h = omega arith
+one_few p Comment n h = omega arith
+one_few p (Token class) n h = omega arith
+
+all_few : (form : Form) (p : Place) (xs : List Lexed) (rest : List ℕ) → AreLexemes form xs rest → length (tokens_of p xs) ≤ length (text_of xs)
+all_few form p [] rest h = omega arith
+all_few form p (x ∷ xs) rest h =
+    let next = behind p x.piece (length x.text) in
+    omega (arith, one_few p x.piece (length x.text) h.0.some, all_few form next xs rest h.1, length-append x.text (text_of xs), length-append (token_of p x.piece (length x.text)) (tokens_of next xs))
+
+abbrev end_if : Place → Bool → List declared.Token
+end_if p b = if b then record { line = p.line; from = p.at; to = p.at; class = LineEnd } ∷ [] else []
+
+end_few : (p : Place) (b : Bool) → length (end_if p b) ≤ 1
+end_few p true = omega arith
+end_few p false = omega arith
+
+pub few_tokens : HasFewTokens
+few_tokens form bytes tokens h =
+    let p = behind_all origin h.lexemes in
+    let long : length (text_of h.lexemes) ≡ length bytes = ap length h.text in
+    let all : length tokens ≡ length (tokens_of origin h.lexemes ++ last_end p) = ap length h.listed in
+    omega (arith, long, all, all_few form origin h.lexemes [] h.are, end_few p (nat_lt p.start p.at), length-append (tokens_of origin h.lexemes) (last_end p))

@@ -1,11 +1,10 @@
 -- The laws of texts of tokens.
-use Rattle.std.specs.Prelude.{◌≡◌, ℕ, List}
+use Rattle.std.specs.Prelude.{◌≡◌, ◌≤◌, ℕ, ◌+◌, List, length}
 use Rattle.text_reader.specs.declared.form.Form.{Form}
 use Rattle.text_reader.specs.declared.token.Token.{Token}
 use Rattle.std.specs.List.{All}
 use Rattle.text_reader.specs.Tokens.{IsTokensOf}
-use Rattle.text_reader.specs.Limits.{bytes_of}
-use Rattle.text_reader.specs.Spelling.{IsSpelled}
+use Rattle.text_reader.specs.Spelling.{IsSpelledIn}
 
 -- A text has one list of tokens.
 abbrev pub HasOneList : Type 0
@@ -13,4 +12,8 @@ HasOneList = (form : Form) (bytes : List ℕ) (tokens others : List Token) → I
 
 -- The bytes of each token are what its class says.
 abbrev pub HasSpelledTokens : Type 0
-HasSpelledTokens = (form : Form) (bytes : List ℕ) (tokens : List Token) → IsTokensOf form bytes tokens → All (λ token. IsSpelled form token.class (bytes_of bytes token)) tokens
+HasSpelledTokens = (form : Form) (bytes : List ℕ) (tokens : List Token) → IsTokensOf form bytes tokens → All (IsSpelledIn form bytes) tokens
+
+-- Each token but the last has a byte.
+abbrev pub HasFewTokens : Type 0
+HasFewTokens = (form : Form) (bytes : List ℕ) (tokens : List Token) → IsTokensOf form bytes tokens → length tokens ≤ length bytes + 1

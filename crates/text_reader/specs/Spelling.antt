@@ -9,6 +9,8 @@ use Rattle.text_reader.specs.declared.token.Class.TheVariants.{Word, Number, Sig
 use Rattle.text_reader.specs.Bytes.{begins_word, is_script_byte, is_word_byte, is_words}
 use Rattle.text_reader.specs.Signs.{is_single, is_pair}
 use Rattle.text_reader.specs.Lexemes.{is_kept}
+use Rattle.text_reader.specs.declared.token.Token as declared
+use Rattle.text_reader.specs.Limits.{bytes_of}
 
 -- a byte of a word that no line feed follows
 abbrev pub is_of_word : Form → ℕ → Bool
@@ -41,3 +43,7 @@ IsSpelled form Word text = IsWord form text
 IsSpelled form Number text = IsDigits text
 IsSpelled form Sign text = is_sign form text ≡ true
 IsSpelled form LineEnd text = (text ≡ []) ⊎ (text ≡ 10 ∷ [])
+
+-- The token's bytes are what its class says.
+abbrev pub IsSpelledIn : Form → List ℕ → declared.Token → Type 0
+IsSpelledIn form bytes token = IsSpelled form token.class (bytes_of bytes token)

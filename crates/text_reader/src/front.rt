@@ -2,6 +2,7 @@
 ghost use Rattle.std.specs.Prelude.{◌≡◌, ◌<◌, ◌≤◌, ◌-◌, ◌^◌, length, drop, Ok, None, IfOk, IfSome};
 ghost use Rattle.std.specs.List.{All};
 ghost use Rattle.text_reader.specs.Progress.{IsReadTo, LacksLexeme};
+ghost use Rattle.text_reader.specs.Spelling.{IsSpelledIn};
 ghost use Rattle.text_reader.specs.Tokens.{IsWithin};
 
 use crate::form::Form;
@@ -48,6 +49,7 @@ pub fn read_front(alloc: Global, bytes: &[u8], form: Form) -> Result<Front, Allo
     requires { length bytes.now < 2 ^ 32 - 1 }
     ensures read { IfOk result (λ front. IsReadTo form bytes.now (drop front.place.at bytes.now) front.place front.tokens.items) }
     ensures within { IfOk result (λ front. All (IsWithin bytes.now) front.tokens.items) }
+    ensures spelled { IfOk result (λ front. All (IsSpelledIn form bytes.now) front.tokens.items) }
     ensures inside { IfOk result (λ front. front.place.at ≤ length bytes.now) }
     ensures longest { IfOk result (λ front. front.place.at < length bytes.now → LacksLexeme form (drop front.place.at bytes.now)) }
 {

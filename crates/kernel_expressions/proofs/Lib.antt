@@ -1,0 +1,11 @@
+pub mod Words
+pub mod Join
+pub mod Stands
+pub mod ListSteps
+pub mod Trees
+pub mod Moving
+pub mod Passing
+pub mod Heads
+pub mod Places
+pub mod FirstPlaces
+pub mod Extremes

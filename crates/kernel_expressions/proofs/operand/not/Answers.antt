@@ -1,0 +1,7 @@
+use Rattle.kernel_grammar.specs.declared.step.Prefix.TheVariants.{Not}
+use Rattle.kernel_expressions.proofs.Moving.{opened_moves_at}
+use Rattle.kernel_expressions.proofs.Heads.{part_prefix}
+use Rattle.kernel_expressions.proofs.operand.not.Goals as goal
+
+pub returns-clause-moves : goal.returns-clause-moves
+returns-clause-moves c = opened_moves_at _ _ _ _ _ _ _ _ _ c.wanted_level.ensures c.if-wanted_level-gt3.false c.opened.ensures (part_prefix _ _ _ Not c.requires) tt

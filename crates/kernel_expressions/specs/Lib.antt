@@ -1,0 +1,9 @@
+pub mod Signs
+pub mod Keys
+pub mod Texts
+pub mod Reads
+pub mod Levels
+pub mod Frames
+pub mod Turns
+pub mod Ended
+pub mod FirstPlaces

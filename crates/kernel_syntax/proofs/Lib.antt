@@ -1,0 +1,4 @@
+pub mod ChainSteps
+pub mod LineSteps
+pub mod FileSteps
+pub mod Kernels

@@ -1,0 +1,3 @@
+pub mod Parts
+pub mod FileParts
+pub mod Refusals
