@@ -8,7 +8,8 @@ use Rattle.kernel_grammar.specs.declared.step.Step.{Step}
 use Rattle.kernel_grammar.specs.declared.step.Step.TheVariants as step
 use Rattle.wrap_words.specs.declared.kind.Kind.{Kind}
 use Rattle.kernel_grammar.specs.Lexicals.{Lexical, word, number, number_in, key, mark}
-use Rattle.kernel_grammar.specs.Words.{Name, words_of, kind_word, is_reserved}
+use Rattle.kernel_grammar.specs.Words.{Name, words_of, is_reserved}
+use Rattle.kind_faults.specs.Words.{kind_word}
 use Rattle.kernel_grammar.specs.Trees.{Or, or_of, and_of, not_of, cmp_of, bor_of, bxor_of, band_of, shift_of, sum_of, prod_of, unary_of, Sums, Atom, digits, multiple, named, indexed, called, called_at, sum, product, extreme, extreme_over, cast, choice, grouped}
 use Rattle.kernel_grammar.specs.Spelling.{extreme_text, name_text, names_text, in_parentheses, of_two, of_three, or_text, sums_text, atom_text}
 use Rattle.kernel_grammar.specs.Steps.{joined, or_steps, sums_steps, atom_steps}

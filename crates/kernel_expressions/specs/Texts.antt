@@ -1,6 +1,6 @@
 -- Tokens as the grammar has them.
 use Rattle.std.specs.Prelude.{◌<◌, ◌^◌, List, map, length}
-use Rattle.kernel_grammar.specs.Words.{kind_word}
+use Rattle.kind_faults.specs.Words.{kind_word}
 use Rattle.kernel_grammar.specs.Lexicals.{Lexical, word, number, sign, line_end}
 use Rattle.kernel_expressions.specs.declared.lexeme.Lexeme.{Lexeme}
 use Rattle.kernel_expressions.specs.declared.lexeme.Lexeme.TheVariants.{Name, Kind, Key, Number, Sign, LineEnd}

@@ -2,7 +2,8 @@
 ghost use Rattle.std.specs.Prelude.{◌≡◌, ◌≤◌, ◌+◌, length, IfOk, IfSome, MatchOption};
 ghost use Rattle.std.specs.List.{slice_get};
 ghost use Rattle.kernel_grammar.specs.Lexicals.{word, number, sign as sign_token};
-ghost use Rattle.kernel_grammar.specs.Words.{is_reserved, kind_word};
+ghost use Rattle.kernel_grammar.specs.Words.{is_reserved};
+ghost use Rattle.kind_faults.specs.Words.{kind_word};
 ghost use Rattle.kernel_expressions.specs.Texts.{texts, text_of, IsFit};
 ghost use Rattle.kernel_expressions.specs.Reads.{Next, Reads, IsItem, IsList, IsNamesBefore, word_of};
 ghost use Rattle.kernel_expressions.specs.Signs.{sign_text};

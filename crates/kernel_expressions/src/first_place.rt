@@ -2,7 +2,6 @@
 ghost use Rattle.std.specs.Prelude.{◌≡◌, ◌<◌, ◌+◌, ◌++◌, ◌≤◌, ◌^◌, [], ◌∷◌, ℕ, List, drop, length, MatchOption};
 ghost use Rattle.std.specs.Bool.{MatchBool};
 ghost use Rattle.kernel_grammar.specs.Lexicals.{Lexical, sign, word};
-ghost use Rattle.kernel_grammar.specs.Words.{kind_word};
 ghost use Rattle.kernel_expressions.specs.FirstPlaces.{HasPlace};
 ghost use Rattle.kernel_expressions.specs.Reads.{Next};
 ghost use Rattle.kernel_expressions.specs.Texts.{texts, text_of};
@@ -10,7 +9,7 @@ ghost use Rattle.kernel_expressions.specs.Texts.{texts, text_of};
 use crate::ahead::lexeme_at;
 use crate::key::key_text;
 use crate::lexeme::Lexeme;
-use wrap_words::Kind;
+use kind_faults::kind_word;
 
 /// What stands in the first place of `min` and `max`.
 #[derive(Clone, Copy)]
@@ -22,24 +21,13 @@ pub enum FirstPlace<'a> {
     Other,
 }
 
-fn kind_text(kind: Kind) -> &'static str
-    ensures { result.now ≡ kind_word kind }
-{
-    match kind {
-        Kind::I32 => "int32",
-        Kind::I64 => "int64",
-        Kind::U32 => "uint32",
-        Kind::U64 => "uint64",
-    }
-}
-
 /// The word that a token is, if it is one.
 fn word_of<'a>(lexeme: Lexeme<'a>) -> Option<&'a str>
     ensures { MatchOption result ((w : List ℕ) → text_of lexeme.entry ≡ word w → ⊥) (λ w. text_of lexeme.entry ≡ word w.now) }
 {
     match lexeme {
         Lexeme::Name(word) => Some(word.text),
-        Lexeme::Kind(kind) => Some(kind_text(kind)),
+        Lexeme::Kind(kind) => Some(kind_word(kind)),
         Lexeme::Key(key) => Some(key_text(key)),
         Lexeme::Number(_) | Lexeme::Sign(_) | Lexeme::LineEnd => None,
     }

@@ -4,7 +4,7 @@ use Rattle.kernel_grammar.specs.declared.step.Extreme.{Extreme}
 use Rattle.kernel_grammar.specs.declared.step.Extreme.TheVariants.{Min, Max}
 use Rattle.kernel_grammar.specs.declared.step.Step.{Step}
 use Rattle.kernel_grammar.specs.declared.step.Step.TheVariants.{Name}
-use Rattle.kernel_grammar.specs.Words.{kind_word}
+use Rattle.kind_faults.specs.Words.{kind_word}
 use Rattle.kernel_grammar.specs.Lexicals.{Lexical, word, number, sign, mark}
 use Rattle.kernel_grammar.specs.Trees.{Or, or_of, or, And, and_of, and, Not, not_of, not, Cmp, cmp_of, related, unequal, Bor, bor_of, bor, Bxor, bxor_of, bxor, Band, band_of, band, Shift, shift_of, left, right, Sum, sum_of, plus, minus, Prod, prod_of, times, quotient, remainder, Unary, unary_of, negated, inverted, Atom, digits, multiple, named, indexed, called, called_at, sum, product, extreme, extreme_over, cast, choice, grouped}
 use Rattle.kernel_grammar.specs.Spelling.{extreme_text, in_parentheses, names_text, or_text, and_text, not_text, cmp_text, bor_text, bxor_text, band_text, shift_text, sum_text, prod_text, unary_text, atom_text}

@@ -6,7 +6,8 @@ use Rattle.kernel_grammar.specs.declared.item.Stored.{Stored}
 use Rattle.kernel_grammar.specs.declared.item.Stored.TheVariants.{Plain, Update}
 use Rattle.kernel_grammar.specs.declared.item.Declared.{Declared}
 use Rattle.kernel_grammar.specs.declared.item.Declared.TheVariants.{Not as undeclared, Inferred, Of}
-use Rattle.kernel_grammar.specs.Words.{Name, kind_word}
+use Rattle.kernel_grammar.specs.Words.{Name}
+use Rattle.kind_faults.specs.Words.{kind_word}
 use Rattle.kernel_grammar.specs.Lexicals.{Lexical, word, number, key, mark, listed}
 use Rattle.kernel_grammar.specs.Trees.{Rel, Or, Sums}
 use Rattle.kernel_grammar.specs.Spelling.{rel_text, extreme_text, name_text, names_text, in_parentheses, in_brackets, or_text, sums_text}

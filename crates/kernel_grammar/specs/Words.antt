@@ -4,13 +4,7 @@ use Rattle.std.specs.List.{list_any}
 use Rattle.std.specs.Option.{is_some}
 use Rattle.wrap_words.specs.declared.kind.Kind.{Kind}
 use Rattle.wrap_words.specs.declared.kind.Kind.TheVariants.{I32, I64, U32, U64}
-
--- the word of a kind
-abbrev pub kind_word : Kind → List ℕ
-kind_word I32 = codes "int32"
-kind_word I64 = codes "int64"
-kind_word U32 = codes "uint32"
-kind_word U64 = codes "uint64"
+use Rattle.kind_faults.specs.Words.{kind_word}
 
 -- the kind that a word names
 abbrev pub kind_named : List ℕ → Option Kind

@@ -10,4 +10,4 @@ mod words;
 pub use file::{Entry, KernelFile};
 pub use item::{Chain, Declared, InsnOption, Item, Relation, Stored};
 pub use step::{Extreme, Folding, Infix, Prefix, Step};
-pub use words::{is_reserved, kind_named, kind_word};
+pub use words::{is_reserved, kind_named};

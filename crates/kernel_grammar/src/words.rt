@@ -1,8 +1,10 @@
 //! The words that are no names.
 ghost use Rattle.std.specs.Prelude.{◌≡◌, bytes_eq, find};
 ghost use Rattle.std.specs.List.{list_any};
-ghost use Rattle.kernel_grammar.specs.Words.{is_reserved, kind_named, kind_word};
+ghost use Rattle.kernel_grammar.specs.Words.{is_reserved, kind_named};
+ghost use Rattle.kind_faults.specs.Words.{kind_word};
 
+use kind_faults::kind_word;
 use wrap_words::Kind;
 
 const KINDS: [Kind; 4] = [Kind::I32, Kind::I64, Kind::U32, Kind::U64];
@@ -13,23 +15,11 @@ const KEYWORDS: [&[u8]; 15] = [
     b"max", b"if", b"cast", b"and", b"or", b"not",
 ];
 
-/// The word of a kind.
-pub fn kind_word(kind: Kind) -> &'static [u8]
-    ensures { result.now ≡ kind_word kind }
-{
-    match kind {
-        Kind::I32 => b"int32",
-        Kind::I64 => b"int64",
-        Kind::U32 => b"uint32",
-        Kind::U64 => b"uint64",
-    }
-}
-
 fn kind_among(word: &[u8], kinds: &[Kind]) -> Option<Kind>
     ensures { result ≡ find (λ kind. bytes_eq word.now (kind_word kind)) kinds.now }
 {
     for kind in kinds {
-        if word == kind_word(*kind) {
+        if word == kind_word(*kind).as_bytes() {
             return Some(*kind);
         }
     }

@@ -18,7 +18,8 @@ use Rattle.kernel_ir.specs.declared.kernel.Tag.TheVariants.{Group, Local, Plain 
 use Rattle.kernel_ir.specs.declared.kernel.Storing.{Storing}
 use Rattle.kernel_ir.specs.declared.kernel.Storing.TheVariants.{Plain, Update}
 use Rattle.kernel_ir.specs.NameSpace.{iname_vars, name_of}
-use Rattle.kernel_printer.specs.Spelling.{kind_word, cell_name, vars_text, kernel_order, rule_order}
+use Rattle.kind_faults.specs.Words.{kind_word}
+use Rattle.kernel_printer.specs.Spelling.{cell_name, vars_text, kernel_order, rule_order}
 use Rattle.kernel_printer.specs.FormText.{Spelling, forms_text, place_text, rows_text}
 use Rattle.kernel_printer.specs.ValueText.{text_of_value, text_of_test}
 

@@ -1,7 +1,5 @@
 -- How what a kernel declares is spelled.
-use Rattle.std.specs.Prelude.{ℕ, ℤ, true, not, nat_eq, List, [], ◌++◌, map, flat_map, filter, slice_get, Option, Some, None, codes}
-use Rattle.wrap_words.specs.declared.kind.Kind.{Kind}
-use Rattle.wrap_words.specs.declared.kind.Kind.TheVariants.{I32, I64, U32, U64}
+use Rattle.std.specs.Prelude.{ℕ, ℤ, true, not, nat_eq, List, [], ◌++◌, map, flat_map, filter, slice_get, Option, Some, None}
 use Rattle.expr_tree.specs.declared.tree.Cell.{Cell}
 use Rattle.expr_tree.specs.declared.tree.Cell.TheVariants.{Array, Temp}
 use Rattle.expr_tree.specs.Scenes.{is_among}
@@ -11,13 +9,6 @@ use Rattle.kernel_ir.specs.declared.kernel.SubstRule.{SubstRule}
 use Rattle.kernel_ir.specs.declared.kernel.Array as array
 use Rattle.kernel_ir.specs.declared.kernel.Temp as temp
 use Rattle.kernel_ir.specs.NameSpace.{iname_vars, name_of}
-
--- the word of a kind
-abbrev pub kind_word : Kind → Bytes
-kind_word I32 = codes "int32"
-kind_word I64 = codes "int64"
-kind_word U32 = codes "uint32"
-kind_word U64 = codes "uint64"
 
 -- the name of an array or temporary
 abbrev pub array_name : Option array.Array → Bytes

@@ -13,7 +13,8 @@ use Rattle.expr_tree.specs.declared.tree.Expr.{Expr, fold-Expr}
 use Rattle.text_writer.specs.Bytes.{Bytes, in_round}
 use Rattle.kernel_ir.specs.declared.kernel.Kernel.{Kernel}
 use Rattle.kernel_ir.specs.NameSpace.{name_of}
-use Rattle.kernel_printer.specs.Spelling.{kind_word, cell_name, rule_name, vars_text}
+use Rattle.kind_faults.specs.Words.{kind_word}
+use Rattle.kernel_printer.specs.Spelling.{cell_name, rule_name, vars_text}
 use Rattle.kernel_printer.specs.FormText.{Spelling, form_text, forms_text, place_text, operand_text, first_text}
 
 -- Where an expression stands: alone, below a node, or as the first of two values of `min` or `max`.

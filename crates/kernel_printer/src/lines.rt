@@ -7,9 +7,10 @@ ghost use Rattle.kernel_printer.specs.Spelled.{spelling_of};
 ghost use Rattle.kernel_ir.specs.NameSpace.{name_of};
 
 use crate::forms::{write_forms, write_rows};
-use crate::spelling::{Spelling, kind_word, rule_order, vars_of, write_name, write_vars};
+use crate::spelling::{Spelling, rule_order, vars_of, write_name, write_vars};
 use crate::values::{Standing, write_value};
 use kernel_ir::{Array, Iname, Kernel, QuasiRow, SubstRule, Tag, Temp};
+use kind_faults::kind_word;
 use std::alloc::{AllocError, Global};
 use text_writer::{put, put_digits, put_gap};
 use wrap_words::Kind;

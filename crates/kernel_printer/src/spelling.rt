@@ -3,31 +3,18 @@ ghost use Rattle.std.specs.Prelude.{◌≡◌, ◌++◌, not, nat_eq, map, flat_
 ghost use Rattle.expr_tree.specs.Scenes.{is_among};
 ghost use Rattle.text_writer.specs.Bytes.{separated};
 ghost use Rattle.kernel_ir.specs.NameSpace.{iname_vars, name_of};
-ghost use Rattle.kernel_printer.specs.Spelling.{cell_name, kernel_order, kind_word, ordered, rule_name, rule_order, vars_text};
+ghost use Rattle.kernel_printer.specs.Spelling.{cell_name, kernel_order, ordered, rule_name, rule_order, vars_text};
 
 use expr_tree::Cell;
 use kernel_ir::{Iname, Kernel, SubstRule};
 use std::alloc::{AllocError, Global};
 use text_writer::{put, put_gap};
-use wrap_words::Kind;
 
 /// A kernel, and the order in which variables stand in a form.
 #[derive(Clone, Copy)]
 pub struct Spelling<'a> {
     pub kernel: &'a Kernel,
     pub order: &'a [u32],
-}
-
-/// The word of a kind.
-pub fn kind_word(kind: Kind) -> &'static str
-    ensures { result.now ≡ kind_word kind }
-{
-    match kind {
-        Kind::I32 => "int32",
-        Kind::I64 => "int64",
-        Kind::U32 => "uint32",
-        Kind::U64 => "uint64",
-    }
 }
 
 /// Adds the name of a variable.

@@ -6,10 +6,11 @@ ghost use Rattle.kernel_printer.specs.Standing.{first_standing, standing_text};
 ghost use Rattle.kernel_printer.specs.ValueText.{ValueText, comparison_text, first_of, folding_text, infix_text, leaf_text, opening_text, over_text, text_of_test, text_of_value, text_of_node};
 
 use crate::forms::{write_first, write_form, write_forms, write_operand, write_place};
-use crate::spelling::{Spelling, kind_word, write_cell, write_name, write_rule_name, write_vars};
+use crate::spelling::{Spelling, write_cell, write_name, write_rule_name, write_vars};
 use affine_rows::Form;
 use expr_tree::{Expr, Node, Op, Rel, Test};
 use kernel_ir::Kernel;
+use kind_faults::kind_word;
 use std::alloc::{AllocError, Global};
 use text_writer::{put, put_digits};
 

@@ -11,7 +11,8 @@ use Rattle.kernel_grammar.specs.declared.item.InsnOption as chosen
 use Rattle.kernel_grammar.specs.declared.item.InsnOption.TheVariants as choice
 use Rattle.kernel_grammar.specs.declared.item.Item.TheVariants as said
 use Rattle.kernel_grammar.specs.Lexicals.{Lexical, number_in, word, key, mark}
-use Rattle.kernel_grammar.specs.Words.{Name, words_of, kind_word}
+use Rattle.kernel_grammar.specs.Words.{Name, words_of}
+use Rattle.kind_faults.specs.Words.{kind_word}
 use Rattle.kernel_grammar.specs.Trees.{Sums, Or}
 use Rattle.kernel_grammar.specs.Spelling.{name_text, names_text, or_text}
 use Rattle.kernel_grammar.specs.Steps.{or_steps, sums_steps}

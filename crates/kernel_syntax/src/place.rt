@@ -12,7 +12,7 @@ use kernel_expressions::lexeme::{Lexeme, Word};
 use kernel_expressions::lexemes::lexemes;
 use kernel_expressions::sign::{SIGNS, sign_text};
 use kernel_expressions::stop::Stop;
-use kernel_grammar::kind_word;
+use kind_faults::kind_word;
 use std::alloc::{AllocError, Global};
 use text_reader::{Class, TextFault, Token};
 use wrap_words::Kind;
@@ -107,7 +107,7 @@ fn begun(alloc: Global, all: &[Lexeme], at: usize, text: &[u8]) -> Result<usize,
             at,
             text,
             most,
-            (Lexeme::Kind(kind), kind_word(kind)),
+            (Lexeme::Kind(kind), kind_word(kind).as_bytes()),
         )?;
     }
     for other in others() {

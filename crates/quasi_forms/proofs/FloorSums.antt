@@ -5,7 +5,7 @@ use Rattle.std.specs.Ordering.{int_eq}
 use Rattle.std.proofs.lemmas.Int.{ints}
 use Rattle.std.proofs.lemmas.List.Sums.{sum_by_push}
 use Rattle.std.proofs.lemmas.Bool.Decides.{Decides-int_eq}
-use Rattle.std.proofs.lemmas.List.{take_more, take_all, take-append-drop, length-append}
+use Rattle.std.proofs.lemmas.List.{take_more, take_all, take-append-drop}
 use Rattle.affine_rows.specs.declared.quasi.Floor.{Floor, out-Floor, out-roll-Floor}
 use Rattle.affine_rows.specs.Forms.{total}
 use Rattle.affine_rows.specs.Reduced.{fits_entry}
@@ -223,17 +223,6 @@ pub fits_next : (g f : Floor) (t : ℤ) (old made : List Floor) → f ≡ with_t
 fits_next g f t old made whole fits pushed all =
     ap (list_all (λ (x : Floor). fits_entry (out-Floor x).times)) pushed
     ∙ all-push (λ x. fits_entry (out-Floor x).times) old f all (ap (λ (x : Floor). fits_entry (out-Floor x).times) whole ∙ (ap fits_entry (times-with t g) ∙ fits))
-
--- ---- how many are different
-
-pub count_again : (fs : List Floor) (i : ℕ) (g : Floor) → i < length fs → g ≡ get_or fs i g → true ≡ list_any (λ x. same_floor x g) (take i fs) → length (distinct same_floor (take i fs)) ≡ length (distinct same_floor (take (i + 1) fs))
-count_again fs i g within is among =
-    sym (ap (λ (xs : List Floor). length (distinct same_floor xs)) (take_next fs i g within is) ∙ ap (λ (xs : List Floor). length xs) (distinct-again same_floor (take i fs) g (sym among)))
-
-pub count_new : (fs : List Floor) (i : ℕ) (g : Floor) → i < length fs → g ≡ get_or fs i g → false ≡ list_any (λ x. same_floor x g) (take i fs) → length (distinct same_floor (take i fs)) + 1 ≡ length (distinct same_floor (take (i + 1) fs))
-count_new fs i g within is among =
-    let more = ap (λ (xs : List Floor). length (distinct same_floor xs)) (take_next fs i g within is) ∙ ap (λ (xs : List Floor). length xs) (distinct-new same_floor (take i fs) g (sym among)) in
-    omega (arith, more, length-append (distinct same_floor (take i fs)) (g ∷ []))
 
 -- ---- those that are different
 

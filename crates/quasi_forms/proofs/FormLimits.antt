@@ -1,7 +1,9 @@
 -- The floors of a form, and what it counts.
-use Rattle.std.proofs.Common.{◌≡◌, ℕ, ◌+◌, ◌-◌, ◌*◌, ◌/◌, ◌%◌, ◌^◌, ◌<◌, ℤ, pos, ◌*ℤ◌, List, [], ◌∷◌, ◌++◌, map, min, length, sum, sum_by, arith, refl, sym, ap, ap₂, ◌∙◌, subst, unsigned_abs, All, append_assoc}
+use Rattle.std.proofs.Common.{◌≡◌, ℕ, ◌+◌, ◌-◌, ◌*◌, ◌/◌, ◌%◌, ◌^◌, ◌<◌, ℤ, pos, ◌*ℤ◌, List, [], ◌∷◌, ◌++◌, map, min, length, sum, sum_by, arith, refl, sym, ap, ap₂, ◌∙◌, subst, unsigned_abs, All, append_assoc, append-nil, take, get_or, Bool, true, false, nat_le}
 use Rattle.std.specs.Prelude.{flat_map}
 use Rattle.std.proofs.lemmas.Int.{ints}
+use Rattle.std.proofs.lemmas.List.{take_more, flat_map_more}
+use Rattle.std.proofs.lemmas.Bool.{leb-true, le-leb}
 use Rattle.std.proofs.lemmas.Grind.{div_ceil_times}
 use Rattle.std.proofs.Math.Nat.{div-eq_of_lt-le}
 use Rattle.std.proofs.lemmas.List.Elements.{All-head, All-tail}
@@ -11,7 +13,7 @@ use Rattle.affine_rows.specs.Forms.{ceil_div, floor_count as counted_floor, sum_
 use Rattle.affine_rows.specs.Reach.{floor_sum, floor_constant}
 use Rattle.affine_rows.proofs.FormEquations.{IsForm-small, IsFloor-inner}
 use Rattle.quasi_forms.specs.Collected.{with_times}
-use Rattle.quasi_forms.specs.Limits.{Inside, FloorInside, floor_inside, form_inside, floors_in, floors_within, floor_count}
+use Rattle.quasi_forms.specs.Limits.{Inside, FloorInside, floor_inside, form_inside, floors_in, floors_within, floor_count, IsWithin}
 use Rattle.quasi_forms.specs.Alike.{same_floor, distinct}
 
 -- ---- the equations of what forms and floors count
@@ -136,7 +138,22 @@ floor_made f inner quotient =
     subst (λ z. IsFloor z) (roll-out-Floor f)
     (record { layers = every_made-Floor (λ l. IsQuotient l.times l.by) (λ l. IsSmall (roll-Quasi l)) layer (record { times = layer.times; inner = (layer.inner, inner.layers); by = layer.by }) refl quotient })
 
--- the limits of a form over floors within theirs
-pub within_count : (q : Quasi) (start slice made : List Floor) (n : ℕ) → start ≡ [] → slice ≡ (out-Quasi q).floors → made ≡ start ++ flat_map floors_within slice → n ≡ length (distinct same_floor made) → n ≡ floor_count q
-within_count q start slice made n s l m e =
-    e ∙ ap (λ (fs : List Floor). length (distinct same_floor fs)) (m ∙ (ap₂ (λ (xs : List Floor) (ys : List Floor). xs ++ flat_map floors_within ys) s l ∙ sym (floors_in-out q)))
+-- ---- one form with few floors
+
+floors_one : (q : Quasi) (fs : List Quasi) → fs ≡ q ∷ [] → flat_map floors_in fs ≡ floors_in q
+floors_one q fs e = ap (flat_map floors_in) e ∙ append-nil (floors_in q)
+
+few_is : (q : Quasi) (fs : List Quasi) (few : Bool) → fs ≡ q ∷ [] → few ≡ nat_le (length (distinct same_floor (flat_map floors_in fs))) 32 → few ≡ nat_le (floor_count q) 32
+few_is q fs few e h = h ∙ ap (λ (gs : List Floor). nat_le (length (distinct same_floor gs)) 32) (floors_one q fs e)
+
+pub few_within : (q : Quasi) (fs : List Quasi) (few : Bool) → fs ≡ q ∷ [] → few ≡ nat_le (length (distinct same_floor (flat_map floors_in fs))) 32 → All IsForm fs → few ≡ true → IsWithin q
+few_within q fs few e h all so = record { form = All-head IsForm q [] (subst (λ (gs : List Quasi). All IsForm gs) e all); floors = leb-true (floor_count q) 32 (sym (few_is q fs few e h) ∙ so) }
+
+pub many_not : (q : Quasi) (fs : List Quasi) (few : Bool) → fs ≡ q ∷ [] → few ≡ nat_le (length (distinct same_floor (flat_map floors_in fs))) 32 → few ≡ false → IsWithin q → ⊥
+many_not q fs few e h shut within = let yes = le-leb (floor_count q) 32 within.floors in let clash : true ≡ false = sym yes ∙ (sym (few_is q fs few e h) ∙ shut) in cc
+
+-- one form more
+pub floors_next : (qs : List Quasi) (i : ℕ) (q : Quasi) (start old made : List Floor) → i < length qs → q ≡ get_or qs i q → old ≡ start ++ flat_map floors_in (take i qs) → made ≡ old ++ floors_in q → made ≡ start ++ flat_map floors_in (take (i + 1) qs)
+floors_next qs i q start old made within is before m =
+    m ∙ (ap (λ (fs : List Floor). fs ++ floors_in q) before
+    ∙ (flat_map_more floors_in start (take i qs) q ∙ ap (λ (xs : List Quasi). start ++ flat_map floors_in xs) (sym (take_more qs i q within ∙ ap (λ (x : Quasi). take i qs ++ x ∷ []) (sym is)))))

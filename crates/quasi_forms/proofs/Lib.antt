@@ -3,6 +3,7 @@ pub mod Likeness
 pub mod FloorSums
 pub mod Errors
 pub mod FormLimits
+pub mod WithinLaws
 pub mod FormValues
 pub mod SumLimits
 pub mod Recursion
@@ -14,3 +15,5 @@ pub mod Placing
 pub mod PutParts
 pub mod AffineValues
 pub mod AffineParts
+pub mod Different
+pub mod Deciding

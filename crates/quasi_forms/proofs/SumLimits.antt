@@ -14,7 +14,6 @@ use Rattle.affine_rows.proofs.Combining.{fits_entry-is}
 use Rattle.affine_rows.proofs.FormEquations.{IsForm-small, IsForm-floors, IsFloor-quotient, form_terms}
 use Rattle.quasi_forms.specs.Alike.{same_floor, distinct}
 use Rattle.quasi_forms.specs.Collected.{IsWide, with_times, times_of, collected_terms, collected_floors, scaled_terms, multiple_floors, scaled_floors, collected_form, floor_form}
-use Rattle.quasi_forms.specs.Limits.{IsWithin}
 use Rattle.quasi_forms.proofs.FormLimits.{constant_count-out, floor_made}
 
 pub constant-collected : (c : ℤ) (ts : List (ℕ × ℤ)) (fs : List Floor) → (out-Quasi (collected_form c ts fs)).constant ≡ c
@@ -40,10 +39,10 @@ collected-made c z ts us fs gs e f g =
 fits_not : (z : ℤ) → unsigned_abs z ≤ 2 ^ 62 → fits_entry z ≡ false → ⊥
 fits_not z small wide = let yes = fits_entry-is z small in let no : true ≡ false = yes ∙ wide in cc
 
-pub wide_constant : (c : ℤ) (ts : List (ℕ × ℤ)) (fs : List Floor) → false ≡ fits_entry c → IsWithin (collected_form c ts fs) → ⊥
-wide_constant c ts fs wide within =
+pub wide_constant : (c : ℤ) (ts : List (ℕ × ℤ)) (fs : List Floor) → false ≡ fits_entry c → IsForm (collected_form c ts fs) → ⊥
+wide_constant c ts fs wide form =
     let q : Quasi = collected_form c ts fs in
-    let small = (IsForm-small q within.form).constant in
+    let small = (IsForm-small q form).constant in
     let same = ap unsigned_abs (constant-collected c ts fs) in
     fits_not c (omega (arith, small, constant_count-out q, same)) (sym wide)
 
@@ -56,9 +55,9 @@ terms_fit (t ∷ ts) h =
     let whole = sum_by-cons (λ (t : ℕ × ℤ). unsigned_abs t.1) t ts in
     true_both (fits_entry t.1) (list_all (λ t. fits_entry t.1) ts) (fits_entry-is t.1 (omega (arith, whole, h))) (terms_fit ts (omega (arith, whole, h)))
 
-pub wide_terms : (c : ℤ) (ts : List (ℕ × ℤ)) (fs : List Floor) → list_all (λ t. fits_entry t.1) (collected_terms ts) ≡ false → IsWithin (collected_form c ts fs) → ⊥
-wide_terms c ts fs wide within =
-    let small = form_terms (collected_form c ts fs) within.form in
+pub wide_terms : (c : ℤ) (ts : List (ℕ × ℤ)) (fs : List Floor) → list_all (λ t. fits_entry t.1) (collected_terms ts) ≡ false → IsForm (collected_form c ts fs) → ⊥
+wide_terms c ts fs wide form =
+    let small = form_terms (collected_form c ts fs) form in
     let same = ap (sum_by (λ (t : ℕ × ℤ). unsigned_abs t.1)) (terms-collected c ts fs) in
     let fit = terms_fit (collected_terms ts) (omega (arith, small, same)) in
     let no : true ≡ false = sym fit ∙ wide in cc
@@ -68,9 +67,9 @@ floors_fit [] all = refl
 floors_fit (f ∷ fs) all =
     true_both (fits_entry (out-Floor f).times) (list_all (λ f. fits_entry (out-Floor f).times) fs) (fits_entry-is (out-Floor f).times (IsFloor-quotient f (All-head IsFloor f fs all)).entry) (floors_fit fs (All-tail IsFloor f fs all))
 
-pub wide_floors : (c : ℤ) (ts : List (ℕ × ℤ)) (fs : List Floor) → list_all (λ f. fits_entry (out-Floor f).times) (collected_floors fs) ≡ false → IsWithin (collected_form c ts fs) → ⊥
-wide_floors c ts fs wide within =
-    let all = subst (All IsFloor) (floors-collected c ts fs) (IsForm-floors (collected_form c ts fs) within.form) in
+pub wide_floors : (c : ℤ) (ts : List (ℕ × ℤ)) (fs : List Floor) → list_all (λ f. fits_entry (out-Floor f).times) (collected_floors fs) ≡ false → IsForm (collected_form c ts fs) → ⊥
+wide_floors c ts fs wide form =
+    let all = subst (All IsFloor) (floors-collected c ts fs) (IsForm-floors (collected_form c ts fs) form) in
     let fit = floors_fit (collected_floors fs) all in
     let no : true ≡ false = sym fit ∙ wide in cc
 

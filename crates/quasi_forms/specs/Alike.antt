@@ -1,5 +1,6 @@
 -- When two forms, and two floors, are alike.
-use Rattle.std.specs.Prelude.{ℕ, ℤ, Bool, true, false, not, ◌&&◌, nat_eq, List, [], ◌∷◌, map, filter}
+use Rattle.std.specs.Prelude.{ℕ, ℤ, Bool, true, false, not, ◌&&◌, nat_eq, if◌then◌else◌, List, [], ◌∷◌, ◌++◌, map, filter}
+use Rattle.std.specs.List.{list_any}
 use Rattle.std.specs.Ordering.{int_eq}
 use Rattle.std.specs.Cmp.Lexicographic.{pointwise}
 use Rattle.affine_rows.specs.declared.quasi.Quasi.{Quasi, Quasi-F, out-Quasi, fold-Quasi}
@@ -42,3 +43,7 @@ same_floor f g = int_eq (out-Floor f).by (out-Floor g).by && same_form (out-Floo
 abbrev pub distinct : {X : Type 0} → (X → X → Bool) → List X → List X
 distinct same [] = []
 distinct same (x ∷ xs) = x ∷ filter (λ y. not (same x y)) (distinct same xs)
+
+-- one more, where none of those that are known is like it
+abbrev pub with_new : {X : Type 0} → (X → X → Bool) → List X → X → List X
+with_new same known x = if list_any (λ y. same y x) known then known else known ++ x ∷ []

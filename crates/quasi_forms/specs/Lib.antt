@@ -1,7 +1,9 @@
 pub mod Alike
 pub mod Collected
 pub mod Limits
+pub mod Within
 pub mod Affine
 pub mod Placed
 pub mod Flattened
 pub mod Combined
+pub mod Fits

@@ -17,7 +17,7 @@ const LARGEST_NUMBER: u64 = 1_048_576;
 
 /// Whether no variable occurs in the form.
 #[cycle(constant)]
-fn is_constant(form: &Quasi) -> bool
+pub fn is_constant(form: &Quasi) -> bool
     ensures { result ≡ is_constant form.now }
 {
     form.terms.is_empty() && are_constant(form.floors.as_slice())
@@ -84,8 +84,8 @@ impl Vars for Zeros {
     }
 }
 
-/// The number of a form without variables.
-fn number_of(form: &Form) -> i64
+/// The number of a form without variables; of another form its value where each variable is 0.
+pub fn number_of(form: &Form) -> i64
     ensures { result ≡ number_of_form form.now }
 {
     // The number is small, since the form is.
@@ -118,7 +118,7 @@ fn leaf(alloc: Global, form: &Form) -> Result<Made, FormFault>
     ensures affine { result ≢ Err FormFault.NotAffine }
 {
     Ok(Made {
-        form: limited(alloc, form.quasi().copy(alloc)?)?,
+        form: limited(alloc, form.copy(alloc)?)?,
         constant: is_constant(form.quasi()),
     })
 }

@@ -21,7 +21,7 @@ fn same_terms(left: &[(u32, i64)], right: &[(u32, i64)]) -> bool
 
 /// Whether two forms have the same constant, terms and floors.
 #[cycle(same)]
-pub(crate) fn same_form(left: &Quasi, right: &Quasi) -> bool
+pub fn same_form(left: &Quasi, right: &Quasi) -> bool
     ensures { result ≡ same_form left.now right.now }
 {
     left.constant == right.constant

@@ -52,7 +52,7 @@ impl WideFloor {
     }
 
     /// An equal floor.
-    fn copy(&self, alloc: Global) -> Result<WideFloor, AllocError>
+    pub(crate) fn copy(&self, alloc: Global) -> Result<WideFloor, AllocError>
         ensures { IfOk result (λ w. w ≡ self.now) }
     {
         Ok(WideFloor {

@@ -11,8 +11,10 @@ mod put;
 mod sums;
 mod terms;
 
-pub use affine::quasi_of;
+pub use affine::{is_constant, number_of, quasi_of};
+pub use alike::same_form;
 pub use fault::FormFault;
 pub use flattened::{Flat, rows_of};
+pub use limits::few_floors;
 pub use put::{put_all, put_in};
-pub use sums::{floor_of, sum_of};
+pub use sums::{floor_of, small_sum_of, sum_of};

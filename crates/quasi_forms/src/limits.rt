@@ -1,16 +1,17 @@
 //! The limits of a form.
-ghost use Rattle.std.specs.Prelude.{◌≡◌, ◌≢◌, ◌≤◌, ◌<◌, ◌↔◌, ◌+◌, ◌-◌, ◌*◌, ◌^◌, ◌++◌, min, map, flat_map, sum, sum_by, length, take, All, IsTrue, IfOk, OnOk, Err, unsigned_abs};
+ghost use Rattle.std.specs.Prelude.{◌≡◌, ◌≢◌, ◌<◌, ◌↔◌, ◌+◌, ◌-◌, ◌*◌, ◌^◌, ◌++◌, min, map, flat_map, sum, sum_by, length, nat_le, All, IsTrue, IfOk, OnOk, Err, unsigned_abs};
 ghost use Rattle.affine_rows.specs.declared.quasi.Quasi.{out-Quasi};
 ghost use Rattle.affine_rows.specs.declared.quasi.Floor.{out-Floor};
-ghost use Rattle.affine_rows.specs.Forms.{ceil_div, sum_count, constant_count, IsSmall, IsFloor};
+ghost use Rattle.affine_rows.specs.Forms.{ceil_div, sum_count, constant_count, IsSmall, IsForm, IsFloor};
 ghost use Rattle.affine_rows.specs.Reach.{floor_sum, floor_constant};
-ghost use Rattle.quasi_forms.specs.Alike.{same_floor, distinct};
-ghost use Rattle.quasi_forms.specs.Limits.{floors_within, floors_of, IsWithin};
+ghost use Rattle.quasi_forms.specs.Alike.{same_floor, distinct, with_new};
+ghost use Rattle.quasi_forms.specs.Limits.{floors_in, floors_within, floors_of, IsWithin};
 
 use crate::fault::FormFault;
 use crate::floors::{WideFloor, different, is_among};
 use affine_rows::{Floor, Form, Quasi};
 use std::alloc::{AllocError, Global};
+use std::slice;
 
 /// The most that a sum and a constant may be.
 const LARGEST: u64 = 1 << 62;
@@ -18,7 +19,7 @@ const LARGEST: u64 = 1 << 62;
 /// The most that the factors of a form's floors may be together.
 const MOST_TIMES: u64 = 1 << 63;
 
-/// The most different floors that a form may have.
+/// The most different floors that forms may have together.
 const MOST_FLOORS: usize = 32;
 
 /// The sum and the constant of a form or a floor, 2^64 - 1 standing for all that is more.
@@ -151,30 +152,58 @@ fn add_floor(alloc: Global, floor: &Floor, made: &mut Vec<WideFloor>) -> Result<
     Ok(())
 }
 
-/// The count of different floors up to a place, from that of those before it.
-fn count_next(floors: &[WideFloor], at: usize, count: usize) -> usize
-    requires within { at < length floors.now }
-    requires before { count ≡ length (distinct same_floor (take at floors.now)) }
-    requires small { count ≤ at }
-    ensures value { result ≡ length (distinct same_floor (take (at + 1) floors.now)) }
-    ensures small { result ≤ at + 1 }
+/// One floor more, unless one that is known is like it.
+fn add_new(alloc: Global, floor: &WideFloor, known: &mut Vec<WideFloor>) -> Result<(), AllocError>
+    ensures { OnOk result (known.new.items ≡ with_new same_floor known.old.items floor.now) }
 {
-    let floor = &floors[at];
-    if is_among(&floors[..at], floor) {
-        return count;
+    if is_among(known.as_slice(), floor) {
+        return Ok(());
     }
-    count + 1
+    known.push(floor.copy(alloc)?)?;
+    Ok(())
 }
 
-/// How many different floors there are.
-fn count_distinct(floors: &[WideFloor]) -> usize
-    ensures { result ≡ length (distinct same_floor floors.now) }
+/// Whether there are at most 32 different floors. It stops at the first one more.
+fn few_different(alloc: Global, floors: &[WideFloor]) -> Result<bool, AllocError>
+    ensures { IfOk result (λ few. few ≡ nat_le (length (distinct same_floor floors.now)) 32) }
 {
-    let mut count = 0;
-    for at in 0..floors.len() {
-        count = count_next(floors, at, count);
+    let mut known = Vec::new(alloc);
+    for floor in floors {
+        add_new(alloc, floor, &mut known)?;
+        if known.len() > MOST_FLOORS {
+            return Ok(false);
+        }
     }
-    count
+    Ok(true)
+}
+
+/// Adds the floors of a form.
+fn add_form(alloc: Global, form: &Form, made: &mut Vec<WideFloor>) -> Result<(), AllocError>
+    ensures floors { OnOk result (made.new.items ≡ made.old.items ++ floors_in form.now) }
+    ensures form { IsForm form.now }
+{
+    add_floors(alloc, form.quasi().floors.as_slice(), made)
+}
+
+/// Adds the floors of forms.
+fn add_forms(alloc: Global, forms: &[Form], made: &mut Vec<WideFloor>) -> Result<(), AllocError>
+    ensures floors { OnOk result (made.new.items ≡ made.old.items ++ flat_map floors_in forms.now) }
+    ensures forms { OnOk result (All IsForm forms.now) }
+{
+    for form in forms {
+        add_form(alloc, form, made)?;
+    }
+    Ok(())
+}
+
+/// Whether forms have at most 32 different floors together, those under floors among them. Each form is small.
+pub fn few_floors(alloc: Global, forms: &[Form]) -> Result<bool, AllocError>
+    ensures few { IfOk result (λ few. few ≡ nat_le (length (distinct same_floor (flat_map floors_in forms.now))) 32) }
+    ensures forms { OnOk result (All IsForm forms.now) }
+{
+    let mut floors = Vec::new(alloc);
+    add_forms(alloc, forms, &mut floors)?;
+    few_different(alloc, &floors)
 }
 
 /// The different floors of a form, in the order in which they first occur.
@@ -186,29 +215,30 @@ pub(crate) fn floors_of(alloc: Global, form: &Quasi) -> Result<Vec<WideFloor>, A
     different(alloc, &floors)
 }
 
-/// Whether a form over floors within the limits is within the limits.
-fn is_within(alloc: Global, form: &Quasi) -> Result<bool, AllocError>
-    requires { All IsFloor (out-Quasi form.now).floors }
-    ensures { IfOk result (λ b. IsTrue b ↔ IsWithin form.now) }
-{
-    if !is_small(form) {
-        return Ok(false);
-    }
-    let mut floors = Vec::new(alloc);
-    add_floors(alloc, form.floors.as_slice(), &mut floors)?;
-    Ok(count_distinct(&floors) <= MOST_FLOORS)
-}
-
-/// The form, where it is within the limits.
-pub(crate) fn limited(alloc: Global, quasi: Quasi) -> Result<Form, FormFault>
+/// The form over floors within the limits, where it is small, however many floors it has.
+pub(crate) fn small(quasi: Quasi) -> Result<Form, FormFault>
     requires { All IsFloor (out-Quasi quasi).floors }
     ensures form { IfOk result (λ f. f ≡ quasi) }
-    ensures within { OnOk result (IsWithin quasi) }
-    ensures limit { result ≡ Err FormFault.Limit → IsWithin quasi → ⊥ }
+    ensures small { OnOk result (IsForm quasi) }
+    ensures limit { result ≡ Err FormFault.Limit → IsForm quasi → ⊥ }
     ensures affine { result ≢ Err FormFault.NotAffine }
 {
-    if !is_within(alloc, &quasi)? {
+    if !is_small(&quasi) {
         return Err(FormFault::Limit);
     }
     Ok(Form::new(quasi))
+}
+
+/// The form, where it has at most 32 different floors.
+pub(crate) fn limited(alloc: Global, form: Form) -> Result<Form, FormFault>
+    ensures form { IfOk result (λ f. f ≡ form) }
+    ensures within { OnOk result (IsWithin form) }
+    ensures limit { result ≡ Err FormFault.Limit → IsWithin form → ⊥ }
+    ensures affine { result ≢ Err FormFault.NotAffine }
+{
+    let few = few_floors(alloc, slice::from_ref(&form))?;
+    if !few {
+        return Err(FormFault::Limit);
+    }
+    Ok(form)
 }

@@ -3,7 +3,7 @@ ghost use Rattle.std.specs.Prelude.{◌≡◌, ◌≢◌, ◌≤◌, ◌≤ℤ�
 ghost use Rattle.std.specs.List.{list_all};
 ghost use Rattle.std.specs.Int.{int_div_euclid};
 ghost use Rattle.affine_rows.specs.Rows.{Env};
-ghost use Rattle.affine_rows.specs.Forms.{form_at};
+ghost use Rattle.affine_rows.specs.Forms.{form_at, IsForm};
 ghost use Rattle.affine_rows.specs.Reduced.{fits_entry};
 ghost use Rattle.quasi_forms.specs.Collected.{collected_form, sum_form, floor_form};
 ghost use Rattle.quasi_forms.specs.Combined.{IsPart, Multiples, IsSum, HasRoom};
@@ -11,7 +11,7 @@ ghost use Rattle.quasi_forms.specs.Limits.{IsWithin};
 
 use crate::fault::FormFault;
 use crate::floors::{WideFloor, add_multiples, collected_floors, narrow};
-use crate::limits::limited;
+use crate::limits::{limited, small};
 use crate::terms::{add_scaled, collected_terms, product};
 use affine_rows::{Floor, Form, Listed, Quasi};
 use std::alloc::{AllocError, Global};
@@ -72,13 +72,13 @@ impl Sum {
         add_multiples(alloc, by, form.floors.as_slice(), &mut self.floors)
     }
 
-    /// The sum as a form in which equal variables and floors that are alike are collected. `Limit` comes exactly where it
-    /// passes a limit.
-    pub(crate) fn collected(self, alloc: Global) -> Result<Form, FormFault>
+    /// The sum as a form in which equal variables and floors that are alike are collected, however many floors it has.
+    /// `Limit` comes exactly where another limit is passed.
+    fn gathered(self, alloc: Global) -> Result<Form, FormFault>
         requires { HasRoom 0 self.constant self.terms.items self.floors.items }
         ensures form { IfOk result (λ f. f ≡ collected_form self.constant self.terms.items self.floors.items) }
-        ensures within { OnOk result (IsWithin (collected_form self.constant self.terms.items self.floors.items)) }
-        ensures limit { result ≡ Err FormFault.Limit → IsWithin (collected_form self.constant self.terms.items self.floors.items) → ⊥ }
+        ensures small { OnOk result (IsForm (collected_form self.constant self.terms.items self.floors.items)) }
+        ensures limit { result ≡ Err FormFault.Limit → IsForm (collected_form self.constant self.terms.items self.floors.items) → ⊥ }
         ensures affine { result ≢ Err FormFault.NotAffine }
     {
         let Sum {
@@ -92,15 +92,37 @@ impl Sum {
         let terms = collected_terms(alloc, terms)?;
         let terms = narrow_terms(alloc, &terms)?;
         let floors = collected_floors(alloc, &floors)?;
-        limited(
-            alloc,
-            Quasi {
-                constant,
-                terms,
-                floors,
-            },
-        )
+        small(Quasi {
+            constant,
+            terms,
+            floors,
+        })
     }
+
+    /// The same with at most 32 different floors. `Limit` comes exactly where it passes a limit.
+    pub(crate) fn collected(self, alloc: Global) -> Result<Form, FormFault>
+        requires { HasRoom 0 self.constant self.terms.items self.floors.items }
+        ensures form { IfOk result (λ f. f ≡ collected_form self.constant self.terms.items self.floors.items) }
+        ensures within { OnOk result (IsWithin (collected_form self.constant self.terms.items self.floors.items)) }
+        ensures limit { result ≡ Err FormFault.Limit → IsWithin (collected_form self.constant self.terms.items self.floors.items) → ⊥ }
+        ensures affine { result ≢ Err FormFault.NotAffine }
+    {
+        limited(alloc, self.gathered(alloc)?)
+    }
+}
+
+/// The form `a + times*b`, collected as by `sum_of`, however many floors it has. `Limit` comes exactly where it passes
+/// another limit: its sum or its constant 2^62, the factor of a floor 2^62 or all of them together 2^63.
+pub fn small_sum_of(alloc: Global, a: &Form, times: i64, b: &Form) -> Result<Form, FormFault>
+    ensures form { IfOk result (λ f. f ≡ sum_form a.now times b.now) }
+    ensures small { OnOk result (IsForm (sum_form a.now times b.now)) }
+    ensures limit { result ≡ Err FormFault.Limit → IsForm (sum_form a.now times b.now) → ⊥ }
+    ensures affine { result ≢ Err FormFault.NotAffine }
+{
+    let mut sum = Sum::new(alloc);
+    sum.add(alloc, 1, a.quasi())?;
+    sum.add(alloc, times, b.quasi())?;
+    sum.gathered(alloc)
 }
 
 /// The form `a + times*b`, in which equal variables and floors of the same form by the same divisor are collected, floors
@@ -113,10 +135,26 @@ pub fn sum_of(alloc: Global, a: &Form, times: i64, b: &Form) -> Result<Form, For
     ensures affine { result ≢ Err FormFault.NotAffine }
     ensures value { IfOk result (λ f. (env : Env) → form_at env f ≡ form_at env a.now +ℤ times *ℤ form_at env b.now) }
 {
-    let mut sum = Sum::new(alloc);
-    sum.add(alloc, 1, a.quasi())?;
-    sum.add(alloc, times, b.quasi())?;
-    sum.collected(alloc)
+    limited(alloc, small_sum_of(alloc, a, times, b)?)
+}
+
+/// The form `a // by`, however many floors it has. `Limit` comes exactly where it is not small.
+fn small_floor_of(alloc: Global, a: &Form, by: i64) -> Result<Form, FormFault>
+    requires { pos 1 ≤ℤ by }
+    ensures form { IfOk result (λ f. f ≡ floor_form a.now by) }
+    ensures limit { result ≡ Err FormFault.Limit → IsForm (floor_form a.now by) → ⊥ }
+    ensures affine { result ≢ Err FormFault.NotAffine }
+{
+    let floor = Floor {
+        times: 1,
+        inner: a.quasi().copy(alloc)?,
+        by,
+    };
+    small(Quasi {
+        constant: 0,
+        terms: Listed::new(alloc),
+        floors: Listed::of_one(alloc, floor)?,
+    })
 }
 
 /// The form `a // by`, rounded down, also where `by` is 1. `Limit` comes exactly where it has
@@ -129,17 +167,5 @@ pub fn floor_of(alloc: Global, a: &Form, by: i64) -> Result<Form, FormFault>
     ensures affine { result ≢ Err FormFault.NotAffine }
     ensures value { IfOk result (λ f. (env : Env) → form_at env f ≡ int_div_euclid (form_at env a.now) by) }
 {
-    let floor = Floor {
-        times: 1,
-        inner: a.quasi().copy(alloc)?,
-        by,
-    };
-    limited(
-        alloc,
-        Quasi {
-            constant: 0,
-            terms: Listed::new(alloc),
-            floors: Listed::of_one(alloc, floor)?,
-        },
-    )
+    limited(alloc, small_floor_of(alloc, a, by)?)
 }

@@ -18,7 +18,7 @@ use Rattle.quasi_forms.specs.Collected.{put_form}
 use Rattle.kernel_ir.specs.declared.kernel.Kernel.{Kernel}
 use Rattle.kernel_ir.specs.declared.kernel.SubstRule.{SubstRule}
 use Rattle.kernel_ir.specs.Expanded.{put_in_layer, putting, used_in_layer, expanding, body_at, expanding_to}
-use Rattle.subst_rules.specs.Fits.{fits}
+use Rattle.quasi_forms.specs.Fits.{fits}
 use Rattle.subst_rules.specs.Replaced.{within, put_layer, putting_within, answer, body_with, use_layer, replacing, refusal_to, test_refusal_to, is_no_use, use_free}
 use Rattle.subst_rules.proofs.Fusion.{fused, fused_test}
 use Rattle.subst_rules.proofs.Made.{made-Literal, made-Leaf, made-Read, made-Call, made-Neg, made-Inv, made-Shl, made-Shr, made-Bin, made-Pick, made-Cast, made-Fold, made-Words, made-Index, made-All, made-Any, made-Not}
@@ -89,7 +89,7 @@ module _ (r : Rules) where
 
 -- ---- uses replaced, and then those that came in
 
-leaf_new : (at : ℕ → List Quasi → Option Expr) (n : Node) (y : Node-F Node Test Expr) → out-Node n ≡ y → (answered ((expanding at).leaf n) (tree_of n)).new ≡ unwrap_or (used_in_layer at y) (tree_of n)
+pub leaf_new : (at : ℕ → List Quasi → Option Expr) (n : Node) (y : Node-F Node Test Expr) → out-Node n ≡ y → (answered ((expanding at).leaf n) (tree_of n)).new ≡ unwrap_or (used_in_layer at y) (tree_of n)
 leaf_new at n y is = ap (λ (z : Node-F Node Test Expr). unwrap_or (used_in_layer at z) (tree_of n)) is
 
 use_at : (at : ℕ → List Quasi → Option Expr) (rule : ℕ) (arguments : List Quasi) → rewritten (expanding at) (tree_of (node.Call rule arguments)) ≡ unwrap_or (at rule arguments) (tree_of (node.Call rule arguments))

@@ -5,7 +5,7 @@ use Rattle.kernel_ir.specs.declared.fault.Fault.{Fault}
 use Rattle.kernel_ir.specs.declared.fault.Fault.TheVariants.{OutOfMemory, Rule}
 use Rattle.kernel_ir.specs.declared.fault.Refusal.{Refusal}
 use Rattle.kernel_ir.specs.Refusals.{IsFault}
-use Rattle.subst_rules.specs.Refused.{first_of, first_in}
+use Rattle.kernel_limits.specs.Asked.{first_of, first_in}
 
 module _ (X : Type 0) (xs : List X) (i : ℕ) (x : X) (h : i < length xs) (is : x ≡ slice_index_or xs i x) where
   split : drop i xs ≡ x ∷ drop (i + 1) xs

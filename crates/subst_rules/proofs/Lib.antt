@@ -3,7 +3,6 @@ pub mod Walking
 pub mod Fusion
 pub mod Made
 pub mod SizeLaws
-pub mod Deciding
 pub mod Agreeing
 pub mod Expanding
 pub mod Limiting

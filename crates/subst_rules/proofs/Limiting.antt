@@ -18,7 +18,8 @@ use Rattle.kernel_ir.specs.Expanded.{expanded, expanded_test}
 use Rattle.kernel_ir.specs.Refusals.{Refuses}
 use Rattle.subst_rules.specs.declared.sizes.Size.{Size}
 use Rattle.subst_rules.specs.Sizes.{capped, sizes_of}
-use Rattle.subst_rules.specs.Refused.{RefusesAs, first_of, first_in, body_refusal, size_refusal, body_refusal_by, option_size, sizes_refusal, size_refusal_by, too_deep, limit_at, limit_refusal, IsCycleRefusal, IsCycleOrLimit, IsExpansionRefusal, arity_refusal, after}
+use Rattle.kernel_limits.specs.Asked.{first_of, first_in}
+use Rattle.subst_rules.specs.Refused.{RefusesAs, body_refusal, size_refusal, body_refusal_by, option_size, sizes_refusal, size_refusal_by, too_deep, limit_at, limit_refusal, IsCycleRefusal, IsCycleOrLimit, IsExpansionRefusal, arity_refusal, after}
 use Rattle.subst_rules.proofs.SizeLaws.{size_to, test_size_to}
 
 pub same_in : {X : Type 0} (f g : X → Option Refusal) → ((x : X) → f x ≡ g x) → (xs : List X) → first_in f xs ≡ first_in g xs

@@ -13,10 +13,14 @@ use Rattle.kernel_ir.specs.declared.kernel.Insn.{Insn}
 use Rattle.kernel_ir.specs.declared.kernel.SubstRule.{SubstRule}
 use Rattle.kernel_ir.specs.Mentions.{listed, listed_in, calls}
 use Rattle.kernel_ir.specs.Valid.{HasArities, params_of, insn_calls}
-use Rattle.kernel_ir.specs.Limits.{value_depth, value_of, test_of, depth_of_option, nodes_of, nodes_of_test}
+use Rattle.kernel_ir.specs.Expanded.{expanded}
+use Rattle.kernel_ir.specs.Limits.{value_depth, value_of, test_of, depth_of_option, nodes_of, nodes_of_test, IsWithinLimits}
 use Rattle.subst_rules.specs.Uses.{calls_in_insn, calls_of}
-use Rattle.subst_rules.specs.Refused.{first_of, first_in, arity, use_refusal, bodies_refusal, insn_refusal, arity_refusal, size_refusal, form_refusal, insn_limit, body_refusal, RefusesAs, IsCycleOrLimit}
-use Rattle.subst_rules.specs.Ready.{HasSmallTrees, IsExpandable}
+use Rattle.kernel_limits.specs.Asked.{first_of, first_in, limit_refusal as other_limit, IsSized}
+use Rattle.kernel_limits.specs.Laws.{IsShallow}
+use Rattle.kernel_limits.proofs.Together.{together}
+use Rattle.subst_rules.specs.Refused.{arity, use_refusal, bodies_refusal, insn_refusal, arity_refusal, size_refusal, form_refusal, insn_limit, body_refusal, limit_refusal, RefusesAs, IsCycleOrLimit}
+use Rattle.subst_rules.specs.Ready.{IsExpandable}
 use Rattle.subst_rules.proofs.Bools.{both, first_of_both, second_of_both}
 
 no_first : (o p : Option Refusal) → first_of o p ≡ None → o ≡ None
@@ -93,7 +97,7 @@ second_test false true r s h = absurd (cc)
 second_test false false r s h = refl
 
 module _ (K : Kernel) where
-  small : (A : Insn) (r s : Refusal) → (if nat_lt 64 (value_depth A.storing (depth_of (value_of K A))) || nat_lt 64 (depth_of_option (test_of K A)) then Some r else (if nat_lt 4096 (nodes_of_test (test_of K A) + nodes_of (value_of K A)) then Some s else None)) ≡ None → HasSmallTrees K A
+  small : (A : Insn) (r s : Refusal) → (if nat_lt 64 (value_depth A.storing (depth_of (value_of K A))) || nat_lt 64 (depth_of_option (test_of K A)) then Some r else (if nat_lt 4096 (nodes_of_test (test_of K A) + nodes_of (value_of K A)) then Some s else None)) ≡ None → IsShallow K A
   small A r s h =
       let deep : Bool = nat_lt 64 (value_depth A.storing (depth_of (value_of K A))) in
       let deep_test : Bool = nat_lt 64 (depth_of_option (test_of K A)) in
@@ -105,16 +109,32 @@ module _ (K : Kernel) where
         nodes = not_more 4096 (nodes_of_test (test_of K A) + nodes_of (value_of K A)) (second_test (deep || deep_test) many r s h);
       }
 
-  all_small : (As : List Insn) → first_in (insn_limit K) As ≡ None → All (HasSmallTrees K) As
-  all_small [] h = All-nil (HasSmallTrees K)
-  all_small (A ∷ As) h = All-cons (HasSmallTrees K) A As
+  all_small : (As : List Insn) → first_in (insn_limit K) As ≡ None → All (IsShallow K) As
+  all_small [] h = All-nil (IsShallow K)
+  all_small (A ∷ As) h = All-cons (IsShallow K) A As
       (small A _ _ (no_first (size_refusal K A) (form_refusal K A) (no_first (insn_limit K A) (first_in (insn_limit K) As) h)))
       (all_small As (no_second (insn_limit K A) (first_in (insn_limit K) As) h))
 
-  ready_within : HasArities K → IsCycleOrLimit K None → IsExpandable K
-  ready_within arities (inl (none, limits)) = record { arities = arities; acyclic = none; insns = all_small K.insns (no_second (first_in (body_refusal K) K.rules) (first_in (insn_limit K) K.insns) (sym limits)) }
-  ready_within arities (inr cycle) = absurd (let e = cycle.2 in cc)
+  shallow_body : (b : Bool) (r : Refusal) → (if b then Some r else None) ≡ None → b ≡ false
+  shallow_body true r h = absurd (cc)
+  shallow_body false r h = refl
 
-  pub ready_on : {T : Type 0} (result : Result T Fault) → arity_refusal K ≡ None → RefusesAs (IsCycleOrLimit K) result → OnOk result (IsExpandable K)
-  ready_on (Ok answer) none h = ready_within (all_right K none) h
-  ready_on (Err f) none h = tt
+  all_shallow : (rs : List SubstRule) → first_in (body_refusal K) rs ≡ None → All (λ r. depth_of (expanded K r.body) ≤ 64) rs
+  all_shallow [] h = All-nil (λ r. depth_of (expanded K r.body) ≤ 64)
+  all_shallow (r ∷ rs) h = All-cons (λ r. depth_of (expanded K r.body) ≤ 64) r rs
+      (not_more 64 (depth_of (expanded K r.body)) (shallow_body (nat_lt 64 (depth_of (expanded K r.body))) _ (no_first (body_refusal K r) (first_in (body_refusal K) rs) h)))
+      (all_shallow rs (no_second (body_refusal K r) (first_in (body_refusal K) rs) h))
+
+  within_limits : limit_refusal K ≡ None → IsSized K → IsWithinLimits K
+  within_limits h sized =
+      let bodies = no_first (first_in (body_refusal K) K.rules) (first_of (first_in (insn_limit K) K.insns) (other_limit K)) h in
+      let later = no_second (first_in (body_refusal K) K.rules) (first_of (first_in (insn_limit K) K.insns) (other_limit K)) h in
+      together K sized (all_shallow K.rules bodies) (all_small K.insns (no_first (first_in (insn_limit K) K.insns) (other_limit K) later))
+
+  ready_within : HasArities K → IsCycleOrLimit K None → IsSized K → IsExpandable K
+  ready_within arities (inl (none, limits)) sized = record { arities = arities; acyclic = none; within = within_limits (sym limits) sized }
+  ready_within arities (inr cycle) sized = absurd (let e = cycle.2 in cc)
+
+  pub ready_on : {T : Type 0} (result : Result T Fault) → arity_refusal K ≡ None → RefusesAs (IsCycleOrLimit K) result → OnOk result (IsSized K) → OnOk result (IsExpandable K)
+  ready_on (Ok answer) none h sized = ready_within (all_right K none) h sized
+  ready_on (Err f) none h sized = tt

@@ -1,7 +1,6 @@
 pub mod Uses
 pub mod Walks
 pub mod Sizes
-pub mod Fits
 pub mod Replaced
 pub mod Refused
 pub mod Kernels

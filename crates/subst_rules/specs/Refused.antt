@@ -15,6 +15,7 @@ use Rattle.kernel_ir.specs.Refusals.{refusal, passed_limit}
 use Rattle.kernel_ir.specs.Expanded.{expanded}
 use Rattle.kernel_ir.specs.Limits.{value_depth, value_of, test_of, depth_of_option, nodes_of, nodes_of_test}
 use Rattle.kernel_ir.specs.Valid.{params_of, calls_along, HasNoRuleCycle}
+use Rattle.kernel_limits.specs.Asked.{first_of, first_in, limit_refusal as other_limit}
 use Rattle.subst_rules.specs.declared.sizes.Size.{Size}
 use Rattle.subst_rules.specs.Sizes.{size_in, size_with, test_size_with}
 use Rattle.subst_rules.specs.Replaced.{refusal_to, test_refusal_to}
@@ -25,15 +26,6 @@ abbrev pub RefusesAs : {T : Type 0} → (Option Refusal → Type 0) → Result T
 RefusesAs expected (Ok answer) = expected None
 RefusesAs expected (Err OutOfMemory) = Unit {0}
 RefusesAs expected (Err (Rule given)) = expected (Some given)
-
--- the first refusal of two, and of those of a list
-abbrev pub first_of : Option Refusal → Option Refusal → Option Refusal
-first_of None o = o
-first_of (Some r) o = Some r
-
-abbrev pub first_in : {X : Type 0} → (X → Option Refusal) → List X → Option Refusal
-first_in refuse [] = None
-first_in refuse (x ∷ xs) = first_of (refuse x) (first_in refuse xs)
 
 abbrev pub name_of_rule : Option SubstRule → List ℕ
 name_of_rule None = []
@@ -108,9 +100,9 @@ form_refusal K A = first_of (form_limit A.line (refusal_to K.rules (length K.rul
 abbrev pub insn_limit : Kernel → Insn → Option Refusal
 insn_limit K A = first_of (size_refusal K A) (form_refusal K A)
 
--- bodies in order, then instructions in order
+-- bodies in order, then instructions in order, then all other limits of the expanded kernel
 abbrev pub limit_refusal : Kernel → Option Refusal
-limit_refusal K = first_of (first_in (body_refusal K) K.rules) (first_in (insn_limit K) K.insns)
+limit_refusal K = first_of (first_in (body_refusal K) K.rules) (first_of (first_in (insn_limit K) K.insns) (other_limit K))
 
 -- ---- all three
 

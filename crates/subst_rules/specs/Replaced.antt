@@ -13,7 +13,7 @@ use Rattle.expr_tree.specs.Rewritten.{Rules, Outcome, tree_of, first_of, outcome
 use Rattle.expr_tree.specs.Keeping.{Parts, is_leaf_layer}
 use Rattle.quasi_forms.specs.Collected.{put_form}
 use Rattle.kernel_ir.specs.declared.kernel.SubstRule.{SubstRule}
-use Rattle.subst_rules.specs.Fits.{fits}
+use Rattle.quasi_forms.specs.Fits.{fits}
 
 -- the one, where the test holds
 abbrev pub within : {T : Type 0} → Bool → T → Result T ExprFault

@@ -3,7 +3,8 @@ ghost use Rattle.std.specs.Prelude.{◌≡◌, [], ◌∷◌, pos, length, slice
 ghost use Rattle.kernel_ir.specs.Refusals.{Refuses};
 ghost use Rattle.kernel_ir.specs.Valid.{params_of};
 ghost use Rattle.subst_rules.specs.Uses.{calls_of};
-ghost use Rattle.subst_rules.specs.Refused.{arity, arity_refusal, bodies_refusal, first_in, insn_refusal, name_of_rule, use_refusal};
+ghost use Rattle.kernel_limits.specs.Asked.{first_in};
+ghost use Rattle.subst_rules.specs.Refused.{arity, arity_refusal, bodies_refusal, insn_refusal, name_of_rule, use_refusal};
 
 use crate::calls::calls_in_insn;
 use affine_rows::{Listed, Name};

@@ -4,11 +4,12 @@ ghost use Rattle.kernel_ir.specs.Limits.{value_of};
 ghost use Rattle.kernel_ir.specs.Expanded.{expanded_test};
 ghost use Rattle.kernel_ir.specs.Refusals.{IsFault, Refuses};
 ghost use Rattle.subst_rules.specs.Replaced.{refusal_to};
-ghost use Rattle.subst_rules.specs.Kernels.{expanded_insn, expanded_kernel};
+ghost use Rattle.kernel_limits.specs.Asked.{IsSized, expanded_insn, first_in};
+ghost use Rattle.subst_rules.specs.Kernels.{expanded_kernel};
 ghost use Rattle.subst_rules.specs.Ready.{IsExpandable};
 ghost use Rattle.subst_rules.specs.Sizes.{sizes_of};
 ghost use Rattle.subst_rules.specs.Uses.{calls_of};
-ghost use Rattle.subst_rules.specs.Refused.{IsCycleOrLimit, IsExpansionRefusal, RefusesAs, body_refusal, first_in, form_limit, insn_limit, limit_refusal, size_refusal, test_fault};
+ghost use Rattle.subst_rules.specs.Refused.{IsCycleOrLimit, IsExpansionRefusal, RefusesAs, body_refusal, form_limit, insn_limit, limit_refusal, size_refusal, test_fault};
 
 use crate::arities::check_arities;
 use crate::calls::calls_of;
@@ -19,6 +20,7 @@ use crate::sizes::{Size, sizes_of};
 use affine_rows::Listed;
 use expr_tree::{Expr, ExprFault, Test};
 use kernel_ir::{Fault, Insn, Kernel};
+use kernel_limits::check_limits;
 use std::alloc::{AllocError, Global};
 
 /// The kernel with each use of a rule in its instructions replaced by the rule's body at the arguments, and without
@@ -26,8 +28,8 @@ use std::alloc::{AllocError, Global};
 /// rules in order, then instructions in order, of each the value before the predicate); else by rule 7 where a rule
 /// reaches itself, of which the first in declared order is kept; else by rule 3 where the expanded body of a rule is
 /// too deep, or, instructions in order, where an expanded value or predicate is too deep, where the expanded instruction
-/// has too many nodes, or where a form that is collected on the way passes its limit. Sizes are worked out before a
-/// tree is built.
+/// has too many nodes, or where a form that is collected on the way passes its limit, or else where the expanded kernel
+/// passes another limit, as by `check_limits`. Sizes are worked out before a tree is built.
 pub fn expand(alloc: Global, kernel: &Kernel) -> Result<Kernel, Fault>
     ensures tree { IfOk result (λ k. k ≡ expanded_kernel kernel.now) }
     ensures refused { RefusesAs (IsExpansionRefusal kernel.now) result }
@@ -47,6 +49,7 @@ fn without_cycle(
     requires { bodies.now ≡ calls_of kernel.now.rules }
     ensures tree { IfOk result (λ k. k ≡ expanded_kernel kernel.now) }
     ensures refused { RefusesAs (IsCycleOrLimit kernel.now) result }
+    ensures sized { OnOk result (IsSized kernel.now) }
 {
     check_cycles(alloc, kernel, bodies)?;
     within_limits(alloc, kernel)
@@ -56,11 +59,14 @@ fn without_cycle(
 fn within_limits(alloc: Global, kernel: &Kernel) -> Result<Kernel, Fault>
     ensures tree { IfOk result (λ k. k ≡ expanded_kernel kernel.now) }
     ensures refused { Refuses (limit_refusal kernel.now) result }
+    ensures sized { OnOk result (IsSized kernel.now) }
 {
     let sizes = sizes_of(alloc, kernel.rules.as_slice())?;
     check_depths(alloc, kernel, sizes.as_slice())?;
     let insns = expanded_insns(alloc, kernel, sizes.as_slice())?;
-    Ok(with_insns(alloc, kernel, insns)?)
+    let expanded = with_insns(alloc, kernel, insns)?;
+    check_limits(alloc, kernel, &expanded)?;
+    Ok(expanded)
 }
 
 /// Whether no expanded body is too deep.

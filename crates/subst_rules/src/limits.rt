@@ -2,7 +2,8 @@
 ghost use Rattle.std.specs.Prelude.{◌≡◌, IfOk, codes, pos};
 ghost use Rattle.kernel_ir.specs.Limits.{value_depth};
 ghost use Rattle.kernel_ir.specs.Refusals.{Refuses};
-ghost use Rattle.subst_rules.specs.Refused.{body_refusal_by, first_in, limit_at, option_size, size_refusal_by, sizes_refusal, too_deep};
+ghost use Rattle.kernel_limits.specs.Asked.{first_in};
+ghost use Rattle.subst_rules.specs.Refused.{body_refusal_by, limit_at, option_size, size_refusal_by, sizes_refusal, too_deep};
 
 use crate::sizes::{Size, size_of, test_size};
 use expr_tree::Test;

@@ -6,7 +6,7 @@ ghost use Rattle.std.specs.Result.{IfErr};
 ghost use Rattle.quasi_forms.specs.Collected.{put_form};
 ghost use Rattle.quasi_forms.specs.Placed.{vars_differ};
 ghost use Rattle.expr_tree.specs.Rewritten.{tree_of};
-ghost use Rattle.subst_rules.specs.Fits.{fits};
+ghost use Rattle.quasi_forms.specs.Fits.{fits};
 ghost use Rattle.subst_rules.specs.Replaced.{body_with, is_leaf};
 
 use affine_rows::{Form, Listed};

@@ -16,8 +16,9 @@ use Rattle.expr_tree.proofs.Layers.{left, right}
 use Rattle.std.specs.List.{list_all}
 use Rattle.kernel_ir.specs.Kinds.{Kinds, Typing, node_typing, test_typing, expr_typing, typing_of, typing_of_test, is_kind}
 use Rattle.kernel_ir.specs.Mentions.{Allowed, node_allowed, test_allowed, expr_allowed, is_allowed, is_allowed_test}
-use Rattle.type_infer.specs.declared.found.Mismatch.{Mismatch}
-use Rattle.type_infer.specs.Judged.{Judged, Known, unless, kind_fault, read_fault, node_judged, test_judged, expr_judged, judged_of, mismatch_of_test, side_kind}
+use Rattle.kind_faults.specs.declared.faults.Mismatch.{Mismatch}
+use Rattle.kind_faults.specs.Faults.{Judged, unless, kind_fault, read_fault, side_kind}
+use Rattle.type_infer.specs.Judged.{Known, node_judged, test_judged, expr_judged, judged_of, mismatch_of_test}
 
 -- the same first kind, and kinds exactly where there is no fault
 pub record Agrees (t : Typing) (j : Judged) : Type 0 where

@@ -20,7 +20,7 @@ use Rattle.kernel_ir.specs.declared.fault.Refusal.{Refusal}
 use Rattle.kernel_ir.specs.Kinds.{kinds_to, kinds_in, cell_kind, array_kind, temp_kind, typing_of, rule_typing}
 use Rattle.kernel_ir.specs.Mentions.{is_allowed, has_cell, shape_length, temp_length, is_count}
 use Rattle.kernel_ir.specs.Valid.{IsFormed, IsRule, IsInsn, IsTyped, in_insn, in_rule, test_allowed, insn_typed, test_typed, rule_typed, rules_typed, used_rules}
-use Rattle.type_infer.specs.declared.found.Mismatch.{Mismatch}
+use Rattle.kind_faults.specs.declared.faults.Mismatch.{Mismatch}
 use Rattle.type_infer.specs.Judged.{judged_of, judged_to, known_in, known_with, rule_judged, mismatch_of}
 use Rattle.type_infer.specs.Typing.{mismatch_at, type_unknown, unknown_stored, test_mismatch, insn_mismatch, insn_refusal, insns_refusal, temps_refusal, body_mismatch, rules_refusal, kinds_refusal}
 use Rattle.type_infer.proofs.Agreement.{Agrees, agrees, agrees_test}

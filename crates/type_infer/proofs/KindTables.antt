@@ -10,9 +10,10 @@ use Rattle.expr_tree.specs.declared.tree.Node.TheOpen.{Node-F}
 use Rattle.expr_tree.specs.Scenes.{is_among}
 use Rattle.kernel_ir.specs.declared.kernel.Kernel.{Kernel}
 use Rattle.kernel_ir.specs.declared.kernel.SubstRule.{SubstRule}
-use Rattle.type_infer.specs.declared.found.Mismatch.{Mismatch}
+use Rattle.kind_faults.specs.declared.faults.Mismatch.{Mismatch}
 use Rattle.type_infer.specs.declared.found.RuleKinds.{RuleKinds}
-use Rattle.type_infer.specs.Judged.{Judged, node_judged, test_judged, expr_judged, judged_of, rule_judged, no_judgement, known_with, known_in, judged_to}
+use Rattle.kind_faults.specs.Faults.{Judged}
+use Rattle.type_infer.specs.Judged.{node_judged, test_judged, expr_judged, judged_of, rule_judged, no_judgement, known_with, known_in, judged_to}
 use Rattle.type_infer.specs.Orders.{used_by, IsCallOrder}
 use Rattle.type_infer.specs.Tables.{judged_at, kept_judgement, known_by, rules_in}
 use Rattle.type_infer.proofs.Walks.{get_set_same, get_set_other}

@@ -7,10 +7,11 @@ use Rattle.expr_tree.specs.declared.tree.Expr.{Expr}
 use Rattle.expr_tree.specs.declared.tree.Node.TheOpen.{Node-F}
 use Rattle.expr_tree.specs.Scenes.{is_among}
 use Rattle.kernel_ir.specs.declared.kernel.SubstRule.{SubstRule}
-use Rattle.type_infer.specs.declared.found.Leading.{Leading}
+use Rattle.kind_faults.specs.declared.leads.Leading.{Leading}
 use Rattle.type_infer.specs.Leads.{node_leads, test_leads, expr_leads, leading_of, rule_leading, leading_to}
 use Rattle.type_infer.specs.Orders.{used_by, IsCallOrder}
-use Rattle.type_infer.specs.Tables.{leading_at, kept_leading, rules_in}
+use Rattle.kind_faults.specs.Leads.{leading_at, kept_leading}
+use Rattle.type_infer.specs.Tables.{rules_in}
 use Rattle.type_infer.proofs.Walks.{get_set_same, get_set_other, among_get}
 use Rattle.type_infer.proofs.SameCalls.{Own, same_fold}
 use Rattle.type_infer.proofs.Filling.{Settled, settled_more, settled_all}

@@ -14,9 +14,10 @@ use Rattle.expr_tree.specs.declared.tree.Node.{the_lemmas}
 use Rattle.expr_tree.specs.declared.tree.Node.TheOpen.{Node-F}
 use Rattle.expr_tree.specs.declared.tree.Node.TheVariants as node
 use Rattle.expr_tree.specs.Rewritten.{tree_of}
-use Rattle.type_infer.specs.declared.found.Leading.{Leading}
+use Rattle.kind_faults.specs.declared.leads.Leading.{Leading}
 use Rattle.type_infer.specs.Leads.{leading_of}
-use Rattle.type_infer.specs.Judged.{Known, Judged, unless, read_fault, node_judged, judged_of}
+use Rattle.kind_faults.specs.Faults.{Judged, unless, read_fault}
+use Rattle.type_infer.specs.Judged.{Known, node_judged, judged_of}
 use Rattle.type_infer.specs.Typing.{mismatch_at}
 use Rattle.type_infer.specs.Rows.{CastIsNoInt32, LiteralIsTooLarge, RuleAtTwoKinds, FiveHasNoKind}
 

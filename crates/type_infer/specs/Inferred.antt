@@ -8,8 +8,8 @@ use Rattle.kernel_ir.specs.declared.kernel.Kernel.{Kernel}
 use Rattle.kernel_ir.specs.declared.kernel.Insn.{Insn}
 use Rattle.kernel_ir.specs.declared.kernel.Temp as temp
 use Rattle.kernel_ir.specs.Kinds.{array_kind}
-use Rattle.type_infer.specs.declared.found.Leading.{Leading}
-use Rattle.type_infer.specs.declared.found.Leading.TheVariants as lead
+use Rattle.kind_faults.specs.declared.leads.Leading.{Leading}
+use Rattle.kind_faults.specs.declared.leads.Leading.TheVariants as lead
 use Rattle.type_infer.specs.Leads.{leading}
 
 abbrev pub is_temp : ℕ → Cell → Bool

@@ -1,40 +1,22 @@
 -- The first place at fault of an expression that is asked for a kind.
-use Rattle.std.specs.Prelude.{ℕ, zero, suc, Bool, ◌&&◌, nat_lt, if◌then◌else◌, length, slice_get, Option, Some, None, unwrap_or}
+use Rattle.std.specs.Prelude.{ℕ, zero, suc, ◌&&◌, nat_lt, length, slice_get, Option, Some, None, unwrap_or}
 use Rattle.std.specs.Option.{option_or}
 use Rattle.wrap_words.specs.declared.kind.Kind.{Kind}
 use Rattle.wrap_words.specs.Words.{modulus_of, width_of}
-use Rattle.expr_tree.specs.declared.tree.Cell.{Cell}
 use Rattle.expr_tree.specs.declared.tree.Node.TheOpen.{Node-F, Test-F, Expr-F}
 use Rattle.expr_tree.specs.declared.tree.Test.{Test, fold-Test}
 use Rattle.expr_tree.specs.declared.tree.Expr.{Expr, fold-Expr}
-use Rattle.expr_tree.specs.Value.{same_kind, is_unsigned, first_of_two}
+use Rattle.expr_tree.specs.Value.{is_unsigned, first_of_two}
 use Rattle.kernel_ir.specs.declared.kernel.Kernel.{Kernel}
 use Rattle.kernel_ir.specs.declared.kernel.SubstRule.{SubstRule}
 use Rattle.kernel_ir.specs.Kinds.{cell_kind}
-use Rattle.type_infer.specs.declared.found.Mismatch.{Mismatch}
-
--- The kind of an expression's first read or cast outside inner tests that has one, and its first fault in text order at each kind.
-pub record Judged : Type 0 where
-  pub first : Option Kind
-  pub fault : Kind → Option Mismatch
+use Rattle.kind_faults.specs.declared.faults.Mismatch.{Mismatch}
+use Rattle.kind_faults.specs.Faults as faults
+use Rattle.kind_faults.specs.Faults.{Judged, unless, kind_fault, read_fault, side_kind}
 
 -- the kinds of cells, and what uses of rules are
-pub record Known : Type 0 where
-  pub cell : Cell → Option Kind
-  pub call : ℕ → Judged
-
--- a fault where the answer is no: this kind is asked, and no read and no cast stands there
-abbrev pub unless : Bool → Kind → Option Mismatch
-unless fine k = if fine then None else Some (record { wanted = k; found = None })
-
--- a read or cast of this kind stands where that kind is asked
-abbrev pub kind_fault : Kind → Kind → Option Mismatch
-kind_fault found k = if same_kind found k then None else Some (record { wanted = k; found = Some found })
-
--- where a cell has no kind there is no fault: its kind is refused where it should be given
-abbrev pub read_fault : Option Kind → Kind → Option Mismatch
-read_fault None k = None
-read_fault (Some found) k = kind_fault found k
+abbrev pub Known : Type 0
+Known = faults.Known Judged
 
 -- One node, with each child judged in its place; a test has a fault at the kind that is asked of the node in which it stands.
 abbrev pub node_judged : Known → Node-F Judged (Kind → Option Mismatch) Judged → Judged
@@ -53,10 +35,6 @@ node_judged w (Node-F.Pick t a b) =
 node_judged w (Node-F.Cast to a) =
     record { first = Some to; fault = λ k. option_or (kind_fault to k) (a.fault (unwrap_or a.first to)) }
 node_judged w (Node-F.Fold op inames a) = a
-
--- the kind of the two sides of a comparison of words
-abbrev pub side_kind : Judged → Judged → Kind → Kind
-side_kind a b k = unwrap_or (first_of_two a.first b.first) k
 
 abbrev pub test_judged : Test-F Judged (Kind → Option Mismatch) Judged → Kind → Option Mismatch
 test_judged (Test-F.Words rel a b) k = option_or (a.fault (side_kind a b k)) (b.fault (side_kind a b k))

@@ -5,8 +5,8 @@ use Rattle.expr_tree.specs.declared.tree.Node.TheOpen.{Node-F, Test-F, Expr-F}
 use Rattle.expr_tree.specs.declared.tree.Expr.{Expr, fold-Expr}
 use Rattle.kernel_ir.specs.declared.kernel.Kernel.{Kernel}
 use Rattle.kernel_ir.specs.declared.kernel.SubstRule.{SubstRule}
-use Rattle.type_infer.specs.declared.found.Leading.{Leading}
-use Rattle.type_infer.specs.declared.found.Leading.TheVariants as lead
+use Rattle.kind_faults.specs.declared.leads.Leading.{Leading}
+use Rattle.kind_faults.specs.declared.leads.Leading.TheVariants as lead
 
 -- One node, with what each child leads with in its place, and with what uses of rules lead with.
 abbrev pub node_leads : (ℕ → Option Leading) → Node-F (Option Leading) (Unit {0}) (Option Leading) → Option Leading

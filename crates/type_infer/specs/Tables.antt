@@ -6,12 +6,12 @@ use Rattle.expr_tree.specs.declared.tree.Expr.{Expr}
 use Rattle.kernel_ir.specs.declared.kernel.Kernel.{Kernel}
 use Rattle.kernel_ir.specs.declared.kernel.Insn.{Insn}
 use Rattle.kernel_ir.specs.Mentions.{listed, listed_in, calls}
-use Rattle.type_infer.specs.declared.found.Leading.{Leading}
-use Rattle.type_infer.specs.declared.found.Mismatch.{Mismatch}
+use Rattle.kind_faults.specs.declared.faults.Mismatch.{Mismatch}
 use Rattle.type_infer.specs.declared.found.RuleKinds.{RuleKinds}
 use Rattle.type_infer.specs.declared.temps.Turn.{Turn}
 use Rattle.type_infer.specs.declared.temps.Turn.TheVariants.{Ends, Leads}
-use Rattle.type_infer.specs.Judged.{Judged, Known, known_with, no_judgement}
+use Rattle.kind_faults.specs.Faults.{Judged}
+use Rattle.type_infer.specs.Judged.{Known, known_with, no_judgement}
 
 -- the rules that an expression uses, in the order of the text
 abbrev pub rules_in : Expr → List ℕ
@@ -21,13 +21,6 @@ rules_in e = map (λ c. c.0) (listed calls e)
 abbrev pub calls_in_insns : List Insn → List ℕ
 calls_in_insns [] = []
 calls_in_insns (A ∷ As) = (map (λ c. c.0) (listed_in calls A.test) ++ map (λ c. c.0) (listed calls A.value)) ++ calls_in_insns As
-
-abbrev pub kept_leading : Option (Option Leading) → Option Leading
-kept_leading None = None
-kept_leading (Some l) = l
-
-abbrev pub leading_at : List (Option Leading) → ℕ → Option Leading
-leading_at table rule = kept_leading (slice_get table rule)
 
 abbrev pub fault_at : RuleKinds → Kind → Option Mismatch
 fault_at r I32 = r.i32

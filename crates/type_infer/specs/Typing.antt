@@ -2,7 +2,7 @@
 use Rattle.std.specs.Prelude.{ℕ, ◌+◌, is_some, if◌then◌else◌, List, [], ◌∷◌, slice_get, Option, Some, None, unwrap_or, codes}
 use Rattle.std.specs.Option.{option_or}
 use Rattle.wrap_words.specs.declared.kind.Kind.{Kind}
-use Rattle.wrap_words.specs.declared.kind.Kind.TheVariants.{I32, I64, U32, U64}
+use Rattle.wrap_words.specs.declared.kind.Kind.TheVariants.{I32}
 use Rattle.expr_tree.specs.declared.tree.Cell.{Cell}
 use Rattle.expr_tree.specs.declared.tree.Cell.TheVariants.{Array, Temp}
 use Rattle.expr_tree.specs.declared.tree.Test.{Test}
@@ -17,7 +17,8 @@ use Rattle.kernel_ir.specs.Kinds.{cell_kind}
 use Rattle.kernel_ir.specs.Limits.{IsWithinLimits}
 use Rattle.kernel_ir.specs.Refusals.{refusal}
 use Rattle.kernel_ir.specs.Valid.{IsFormed, HasArities, HasNoRuleCycle, used_rules}
-use Rattle.type_infer.specs.declared.found.Mismatch.{Mismatch}
+use Rattle.kind_faults.specs.declared.faults.Mismatch.{Mismatch}
+use Rattle.kind_faults.specs.Words.{kind_word}
 use Rattle.type_infer.specs.Judged.{Known, judged_of, known_in, mismatch_of, mismatch_of_test}
 use Rattle.type_infer.specs.Inferred.{inferred}
 
@@ -29,12 +30,6 @@ pub record IsTypable (K : Kernel) : Type 0 where
   pub within : IsWithinLimits K
 
 -- ---- refusals
-
-abbrev pub kind_word : Kind → List ℕ
-kind_word I32 = codes "int32"
-kind_word I64 = codes "int64"
-kind_word U32 = codes "uint32"
-kind_word U64 = codes "uint64"
 
 abbrev pub found_word : Option Kind → List ℕ
 found_word None = codes "form"

@@ -1,14 +1,13 @@
 //! The first place at fault of an expression that is asked for a kind.
-ghost use Rattle.std.specs.Prelude.{◌≡◌, ◌&&◌, nat_lt, slice_get};
-ghost use Rattle.wrap_words.specs.Words.{modulus_of, width_of};
-ghost use Rattle.expr_tree.specs.Value.{same_kind, is_unsigned};
+ghost use Rattle.std.specs.Prelude.{◌≡◌, slice_get};
 ghost use Rattle.kernel_ir.specs.Kinds.{cell_kind};
-ghost use Rattle.type_infer.specs.Judged.{judged_of, kind_fault, mismatch_of, mismatch_of_test, read_fault, unless};
+ghost use Rattle.type_infer.specs.Judged.{judged_of, mismatch_of, mismatch_of_test};
 ghost use Rattle.type_infer.specs.Tables.{fault_at, kept_judgement, known_by};
 
-use crate::found::{Mismatch, RuleKinds};
+use crate::found::RuleKinds;
 use expr_tree::{Cell, Expr, Node, Test};
 use kernel_ir::Kernel;
+use kind_faults::{Mismatch, fits, is_unsigned, kind_fault, may_shift, read_fault, unless};
 use wrap_words::Kind;
 
 /// The kind of a cell, if there is such a cell and it has one.
@@ -24,72 +23,6 @@ pub(crate) fn cell_kind(kernel: &Kernel, cell: Cell) -> Option<Kind>
             Some(temp) => temp.kind,
             None => None,
         },
-    }
-}
-
-/// A fault where the answer is no, if no read and no cast stands there.
-pub(crate) fn unless(fine: bool, wanted: Kind) -> Option<Mismatch>
-    ensures { result ≡ unless fine wanted }
-{
-    if fine {
-        None
-    } else {
-        Some(Mismatch {
-            wanted,
-            found: None,
-        })
-    }
-}
-
-/// A read or cast of one kind where another one is asked.
-fn kind_fault(found: Kind, wanted: Kind) -> Option<Mismatch>
-    ensures { result ≡ kind_fault found wanted }
-{
-    if found == wanted {
-        None
-    } else {
-        Some(Mismatch {
-            wanted,
-            found: Some(found),
-        })
-    }
-}
-
-fn read_fault(found: Option<Kind>, wanted: Kind) -> Option<Mismatch>
-    ensures { result ≡ read_fault found wanted }
-{
-    match found {
-        Some(found) => kind_fault(found, wanted),
-        None => None,
-    }
-}
-
-/// Whether a literal fits the kind.
-fn fits(number: u64, kind: Kind) -> bool
-    ensures { result ≡ nat_lt number (modulus_of kind) }
-{
-    match kind {
-        Kind::I32 | Kind::U32 => number < 4_294_967_296,
-        Kind::I64 | Kind::U64 => true,
-    }
-}
-
-/// Whether a word of the kind may be shifted by so many bits.
-fn may_shift(by: u32, kind: Kind) -> bool
-    ensures { result ≡ nat_lt by (width_of kind) }
-{
-    match kind {
-        Kind::I32 | Kind::U32 => by < 32,
-        Kind::I64 | Kind::U64 => by < 64,
-    }
-}
-
-fn is_unsigned(kind: Kind) -> bool
-    ensures { result ≡ is_unsigned kind }
-{
-    match kind {
-        Kind::I32 | Kind::I64 => false,
-        Kind::U32 | Kind::U64 => true,
     }
 }
 
@@ -161,9 +94,12 @@ pub(crate) fn mismatch(
         Node::Read(cell, _) => read_fault(cell_kind(kernel, *cell), kind),
         Node::Call(rule, _) => rule_fault(rules, *rule, kind),
         Node::Neg(a) | Node::Inv(a) | Node::Fold(_, _, a) => mismatch(a, kind, kernel, rules),
-        Node::Shl(a, by) => mismatch(a, kind, kernel, rules).or(unless(may_shift(*by, kind), kind)),
+        Node::Shl(a, by) => mismatch(a, kind, kernel, rules).or(unless(
+            may_shift(u64::from(*by), kind),
+            kind,
+        )),
         Node::Shr(a, by) => mismatch(a, kind, kernel, rules).or(unless(
-            is_unsigned(kind) && may_shift(*by, kind),
+            is_unsigned(kind) && may_shift(u64::from(*by), kind),
             kind,
         )),
         Node::Bin(_, a, b) => match mismatch(a, kind, kernel, rules) {

@@ -1,20 +1,10 @@
 //! What expressions lead with.
 ghost use Rattle.std.specs.Prelude.{◌≡◌};
+ghost use Rattle.kind_faults.specs.Leads.{leading_at};
 ghost use Rattle.type_infer.specs.Leads.{leading_of};
-ghost use Rattle.type_infer.specs.Tables.{leading_at};
 
-use crate::found::Leading;
 use expr_tree::{Expr, Node};
-
-/// What is kept at a place, if there is one.
-pub(crate) fn kept_leading(table: &[Option<Leading>], at: usize) -> Option<Leading>
-    ensures { result ≡ leading_at table.now at }
-{
-    match table.get(at) {
-        Some(kept) => *kept,
-        None => None,
-    }
-}
+use kind_faults::{Leading, kept_leading};
 
 /// The first read or cast of the expression outside its inner tests, by those of the rules.
 #[cycle(leading)]

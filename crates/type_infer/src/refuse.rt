@@ -6,27 +6,16 @@ ghost use Rattle.type_infer.specs.Orders.{marked_at};
 ghost use Rattle.kernel_ir.specs.Refusals.{Refuses};
 ghost use Rattle.kernel_ir.specs.Kinds.{cell_kind};
 ghost use Rattle.type_infer.specs.Tables.{known_by};
-ghost use Rattle.type_infer.specs.Typing.{body_mismatch, kinds_refusal, rules_refusal, insn_mismatch, insn_refusal, insns_refusal, kind_word, found_word, mismatch_at, temps_refusal, type_mismatch, type_unknown, unknown_stored};
+ghost use Rattle.type_infer.specs.Typing.{body_mismatch, kinds_refusal, rules_refusal, insn_mismatch, insn_refusal, insns_refusal, found_word, mismatch_at, temps_refusal, type_mismatch, type_unknown, unknown_stored};
 
 use crate::faults::{cell_kind, first_kind, mismatch, test_mismatch};
-use crate::found::{Mismatch, RuleKinds};
+use crate::found::RuleKinds;
 use crate::used::is_marked;
 use expr_tree::Cell;
 use kernel_ir::{Fault, Insn, Kernel, Refusal, Site, SubstRule, Temp};
+use kind_faults::{Mismatch, kind_word};
 use std::alloc::{AllocError, Global};
 use wrap_words::Kind;
-
-/// The word of a kind in kernel files.
-fn kind_word(kind: Kind) -> &'static str
-    ensures { result.now ≡ kind_word kind }
-{
-    match kind {
-        Kind::I32 => "int32",
-        Kind::I64 => "int64",
-        Kind::U32 => "uint32",
-        Kind::U64 => "uint64",
-    }
-}
 
 /// The word of what stands at a fault.
 fn found_word(found: Option<Kind>) -> &'static str

@@ -1,17 +1,19 @@
 //! What is kept of rules, filled in an order in which each rule stands behind those that it uses.
 ghost use Rattle.std.specs.Prelude.{◌≡◌, ℕ, map, length, slice_get, Some, IfOk};
+ghost use Rattle.kind_faults.specs.Leads.{leading_at};
 ghost use Rattle.type_infer.specs.Leads.{leading_to, rule_leading};
 ghost use Rattle.type_infer.specs.Orders.{IsCallOrder};
-ghost use Rattle.type_infer.specs.Tables.{kept_judgement, known_by, leading_at, rules_in};
+ghost use Rattle.type_infer.specs.Tables.{kept_judgement, known_by, rules_in};
 ghost use Rattle.type_infer.specs.Judged.{judged_of, known_in, no_judgement, rule_judged};
 
 use crate::calls::add_calls;
-use crate::faults::{first_kind, mismatch, unless};
-use crate::found::{Leading, RuleKinds};
+use crate::faults::{first_kind, mismatch};
+use crate::found::RuleKinds;
 use crate::leads::leading;
 use affine_rows::Listed;
 use expr_tree::Expr;
 use kernel_ir::{Kernel, SubstRule};
+use kind_faults::{Leading, unless};
 use std::alloc::{AllocError, Global};
 use wrap_words::Kind;
 

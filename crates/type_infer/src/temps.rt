@@ -3,15 +3,16 @@ ghost use Rattle.std.specs.Prelude.{◌≡◌, ℕ, suc, ◌<◌, length, slice_
 ghost use Rattle.std.specs.Option.{option_copied};
 ghost use Rattle.wrap_words.specs.declared.kind.Kind.{Kind};
 ghost use Rattle.kernel_ir.specs.Kinds.{array_kind};
+ghost use Rattle.kind_faults.specs.Leads.{leading_at};
 ghost use Rattle.type_infer.specs.Leads.{leading_to};
 ghost use Rattle.type_infer.specs.Inferred.{inferred_kind, is_temp, leading_kind, kind_to, stored_leading, with_kinds};
-ghost use Rattle.type_infer.specs.Tables.{kind_after, leading_at};
+ghost use Rattle.type_infer.specs.Tables.{kind_after};
 
-use crate::found::Leading;
-use crate::leads::{kept_leading, leading};
+use crate::leads::leading;
 use affine_rows::Listed;
 use expr_tree::Cell;
 use kernel_ir::{Insn, Kernel, Temp};
+use kind_faults::{Leading, kept_leading};
 use std::alloc::{AllocError, Global};
 use wrap_words::Kind;
 

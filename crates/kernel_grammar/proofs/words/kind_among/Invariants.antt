@@ -1,5 +1,5 @@
 use Rattle.std.proofs.Common.{◌≡◌, bytes_eq, find, drop}
-use Rattle.kernel_grammar.specs.Words.{kind_word}
+use Rattle.kind_faults.specs.Words.{kind_word}
 use Rattle.kernel_grammar.proofs.words.kind_among.Given as goal
 
 abbrev pub invariant-loop-kind : goal.invariant-loop-kind

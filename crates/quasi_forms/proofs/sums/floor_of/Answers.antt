@@ -1,43 +1,15 @@
-use Rattle.std.proofs.Common.{◌≡◌, ◌∙◌, [], ◌∷◌, sym, ap, subst, IfOk, OnOk, Err, pos, All, FitsSigned}
+use Rattle.std.proofs.Common.{◌≡◌, ◌∙◌, ap, FitsSigned}
 use Rattle.std.specs.Int.{w64}
 use Rattle.std.proofs.lemmas.Int.{to_z-of_z}
 use Rattle.std.proofs.lemmas.Result.{IfOk-weaker}
-use Rattle.affine_rows.specs.declared.quasi.Quasi.{Quasi, out-roll-Quasi}
-use Rattle.affine_rows.specs.declared.quasi.Floor.{roll-Floor}
-use Rattle.affine_rows.specs.Forms.{IsForm, IsFloor, form_at}
-use Rattle.quasi_forms.specs.declared.fault.FormFault.TheVariants.{Limit}
+use Rattle.affine_rows.specs.declared.quasi.Quasi.{Quasi}
+use Rattle.affine_rows.specs.Forms.{form_at}
 use Rattle.quasi_forms.specs.Collected.{floor_form}
-use Rattle.quasi_forms.specs.Limits.{IsWithin}
 use Rattle.quasi_forms.proofs.FormValues.{floor-at}
-use Rattle.quasi_forms.proofs.SumLimits.{floor_form-is, one_floor}
 use Rattle.quasi_forms.proofs.sums.floor_of.Goals as goal
-
-pub limited-requires : goal.limited-requires
-limited-requires c =
-    let fits : FitsSigned w64 c.args.by = c.ranges.by in
-    let made : c.in_ok-of_one.field-0 ≡ roll-Floor (record { times = pos 1; inner = c.in_ok-copy.field-0; by = c.args.by }) ∷ [] = simp to_z-of_z at c.in_ok-of_one.ensures in
-    let same : c.in_ok-copy.field-0 ≡ c.args.a.now = c.in_ok-copy.ensures ∙ c.quasi.ensures.same in
-    let h : IsForm c.in_ok-copy.field-0 = subst IsForm (sym same) c.quasi.ensures.form in
-    simp out-roll-Quasi (subst (All IsFloor) (sym made) (one_floor c.in_ok-copy.field-0 c.args.by h c.requires))
-
-pub returns-clause-form : goal.returns-clause-form
-returns-clause-form c =
-    let fits : FitsSigned w64 c.args.by = c.ranges.by in
-    let made : c.in_ok-of_one.field-0 ≡ roll-Floor (record { times = pos 1; inner = c.in_ok-copy.field-0; by = c.args.by }) ∷ [] = simp to_z-of_z at c.in_ok-of_one.ensures in
-    subst (λ (x : Quasi). IfOk c.limited.result (λ f. f ≡ x)) (floor_form-is c.args.a.now c.in_ok-copy.field-0 c.args.by c.new.result c.in_ok-of_one.field-0 (c.in_ok-copy.ensures ∙ c.quasi.ensures.same) c.new.ensures made) c.limited.ensures.form
-
-pub returns-clause-within : goal.returns-clause-within
-returns-clause-within c =
-    let fits : FitsSigned w64 c.args.by = c.ranges.by in
-    let made : c.in_ok-of_one.field-0 ≡ roll-Floor (record { times = pos 1; inner = c.in_ok-copy.field-0; by = c.args.by }) ∷ [] = simp to_z-of_z at c.in_ok-of_one.ensures in
-    subst (λ (x : Quasi). OnOk c.limited.result (IsWithin x)) (floor_form-is c.args.a.now c.in_ok-copy.field-0 c.args.by c.new.result c.in_ok-of_one.field-0 (c.in_ok-copy.ensures ∙ c.quasi.ensures.same) c.new.ensures made) c.limited.ensures.within
-
-pub returns-clause-limit : goal.returns-clause-limit
-returns-clause-limit c =
-    let fits : FitsSigned w64 c.args.by = c.ranges.by in
-    let made : c.in_ok-of_one.field-0 ≡ roll-Floor (record { times = pos 1; inner = c.in_ok-copy.field-0; by = c.args.by }) ∷ [] = simp to_z-of_z at c.in_ok-of_one.ensures in
-    subst (λ (x : Quasi). c.limited.result ≡ Err Limit → IsWithin x → ⊥) (floor_form-is c.args.a.now c.in_ok-copy.field-0 c.args.by c.new.result c.in_ok-of_one.field-0 (c.in_ok-copy.ensures ∙ c.quasi.ensures.same) c.new.ensures made) c.limited.ensures.limit
 
 pub returns-clause-value : goal.returns-clause-value
 returns-clause-value c =
-    IfOk-weaker c.limited.result (λ (f : Quasi). f ≡ floor_form c.args.a.now c.args.by) _ (λ f is env. ap (form_at env) is ∙ floor-at env c.args.a.now c.args.by) (returns-clause-form c)
+    let fits : FitsSigned w64 c.args.by = c.ranges.by in
+    let whole : c.in_ok-small_floor_of.field-0 ≡ floor_form c.args.a.now c.args.by = simp to_z-of_z at c.in_ok-small_floor_of.ensures.form in
+    IfOk-weaker c.limited.result (λ (f : Quasi). f ≡ c.in_ok-small_floor_of.field-0) _ (λ f is env. ap (form_at env) (is ∙ whole) ∙ floor-at env c.args.a.now c.args.by) c.limited.ensures.form

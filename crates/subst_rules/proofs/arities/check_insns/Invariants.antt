@@ -1,5 +1,6 @@
 use Rattle.std.proofs.Common.{◌≡◌, drop}
-use Rattle.subst_rules.specs.Refused.{first_in, insn_refusal}
+use Rattle.kernel_limits.specs.Asked.{first_in}
+use Rattle.subst_rules.specs.Refused.{insn_refusal}
 use Rattle.subst_rules.proofs.arities.check_insns.Given as goal
 
 abbrev pub invariant-loop-insn : goal.invariant-loop-insn

@@ -1,5 +1,6 @@
 use Rattle.std.proofs.Common.{◌≡◌, drop}
-use Rattle.subst_rules.specs.Refused.{first_in, use_refusal}
+use Rattle.kernel_limits.specs.Asked.{first_in}
+use Rattle.subst_rules.specs.Refused.{use_refusal}
 use Rattle.subst_rules.proofs.arities.check_uses.Given as goal
 
 abbrev pub invariant-loop-used : goal.invariant-loop-used

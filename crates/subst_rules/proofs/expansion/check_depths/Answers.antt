@@ -3,7 +3,8 @@ use Rattle.kernel_ir.specs.declared.fault.Refusal.{Refusal}
 use Rattle.kernel_ir.specs.declared.kernel.SubstRule.{SubstRule}
 use Rattle.kernel_ir.specs.Refusals.{Refuses}
 use Rattle.subst_rules.specs.declared.sizes.Size.{Size}
-use Rattle.subst_rules.specs.Refused.{body_refusal_by, first_in}
+use Rattle.kernel_limits.specs.Asked.{first_in}
+use Rattle.subst_rules.specs.Refused.{body_refusal_by}
 use Rattle.subst_rules.proofs.Limiting.{bodies_by_size}
 use Rattle.subst_rules.proofs.expansion.check_depths.Goals as goal
 

@@ -1,7 +1,7 @@
 use Rattle.std.proofs.Common.{◌∙◌, ap, List, map}
 use Rattle.kernel_ir.specs.declared.kernel.Insn.{Insn}
-use Rattle.subst_rules.specs.Kernels.{expanded_insn}
-use Rattle.subst_rules.specs.Refused.{first_in, insn_limit}
+use Rattle.kernel_limits.specs.Asked.{expanded_insn, first_in}
+use Rattle.subst_rules.specs.Refused.{insn_limit}
 use Rattle.subst_rules.proofs.InOrder.{next_in, next_made, fault_in}
 use Rattle.subst_rules.proofs.expansion.expanded_insns.Goals as goal
 

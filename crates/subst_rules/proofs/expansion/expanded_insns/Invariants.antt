@@ -1,6 +1,6 @@
 use Rattle.std.proofs.Common.{◌≡◌, ◌++◌, map, drop}
-use Rattle.subst_rules.specs.Kernels.{expanded_insn}
-use Rattle.subst_rules.specs.Refused.{insn_limit, first_in}
+use Rattle.kernel_limits.specs.Asked.{expanded_insn, first_in}
+use Rattle.subst_rules.specs.Refused.{insn_limit}
 use Rattle.subst_rules.proofs.expansion.expanded_insns.Given as goal
 
 abbrev pub invariant-loop-insn : goal.invariant-loop-insn

@@ -1,5 +1,6 @@
 use Rattle.std.proofs.Common.{◌≡◌, drop}
-use Rattle.subst_rules.specs.Refused.{body_refusal_by, first_in}
+use Rattle.kernel_limits.specs.Asked.{first_in}
+use Rattle.subst_rules.specs.Refused.{body_refusal_by}
 use Rattle.subst_rules.proofs.limits.check_bodies.Given as goal
 
 abbrev pub invariant-loop-rule : goal.invariant-loop-rule

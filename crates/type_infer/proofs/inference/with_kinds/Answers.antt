@@ -1,6 +1,6 @@
 use Rattle.std.proofs.Common.{ap, length, ◌∙◌}
 use Rattle.type_infer.specs.Leads.{leading_to}
-use Rattle.type_infer.specs.Tables.{leading_at}
+use Rattle.kind_faults.specs.Leads.{leading_at}
 use Rattle.type_infer.proofs.inference.with_kinds.Goals as goal
 
 pub inferred_temps-requires : goal.inferred_temps-requires

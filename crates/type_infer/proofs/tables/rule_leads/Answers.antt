@@ -2,7 +2,7 @@ use Rattle.std.proofs.Common.{◌<◌, ◌∙◌, length, get_or, slice_get, rul
 use Rattle.std.proofs.Math.Path.{fun_ext}
 use Rattle.std.proofs.lemmas.List.{length-set}
 use Rattle.type_infer.specs.Leads.{rule_leading}
-use Rattle.type_infer.specs.Tables.{leading_at}
+use Rattle.kind_faults.specs.Leads.{leading_at}
 use Rattle.type_infer.proofs.LeadTables.{leads_more, leads_all, in_range}
 use Rattle.type_infer.proofs.tables.rule_leads.Goals as goal
 

@@ -1,6 +1,6 @@
 use Rattle.std.proofs.Common.{◌≡◌, length}
 use Rattle.type_infer.specs.Leads.{leading_to}
-use Rattle.type_infer.specs.Tables.{leading_at}
+use Rattle.kind_faults.specs.Leads.{leading_at}
 use Rattle.type_infer.proofs.Filling.{Settled}
 use Rattle.type_infer.proofs.tables.rule_leads.Given as goal
 

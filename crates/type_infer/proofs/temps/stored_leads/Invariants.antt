@@ -1,6 +1,6 @@
 use Rattle.std.proofs.Common.{◌≡◌, ℕ, ◌<◌, length}
 use Rattle.type_infer.specs.Inferred.{stored_leading}
-use Rattle.type_infer.specs.Tables.{leading_at}
+use Rattle.kind_faults.specs.Leads.{leading_at}
 use Rattle.type_infer.proofs.temps.stored_leads.Given as goal
 
 abbrev pub invariant-loop-temp : goal.invariant-loop-temp

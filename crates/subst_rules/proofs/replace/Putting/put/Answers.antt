@@ -1,7 +1,7 @@
 use Rattle.std.proofs.Common.{ap, Err}
-use Rattle.subst_rules.specs.Fits.{fits}
+use Rattle.quasi_forms.specs.Fits.{fits}
 use Rattle.subst_rules.proofs.Bools.{not_true}
-use Rattle.subst_rules.proofs.Deciding.{fits_made, fits_seen}
+use Rattle.quasi_forms.proofs.Deciding.{fits_made, fits_seen}
 use Rattle.subst_rules.proofs.replace.Putting.put.Goals as goal
 
 pub returns-in-Ok-clause-fits : goal.returns-in-Ok-clause-fits

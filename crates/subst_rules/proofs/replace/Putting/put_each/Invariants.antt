@@ -1,7 +1,7 @@
 use Rattle.std.proofs.Common.{◌≡◌, ◌++◌, map, drop}
 use Rattle.std.specs.List.{list_all}
 use Rattle.quasi_forms.specs.Collected.{put_form}
-use Rattle.subst_rules.specs.Fits.{fits}
+use Rattle.quasi_forms.specs.Fits.{fits}
 use Rattle.subst_rules.proofs.replace.Putting.put_each.Given as goal
 
 abbrev pub invariant-loop-form : goal.invariant-loop-form

@@ -1,0 +1,14 @@
+pub mod Related
+pub mod Passing
+pub mod Standing
+pub mod Rules
+pub mod Equal
+pub mod Kept
+pub mod Ends
+pub mod NoUses
+pub mod PutVars
+pub mod Allowed
+pub mod Meanings
+pub mod Values
+pub mod Formed
+pub mod Valid

@@ -1,0 +1,4 @@
+//! Laws of expanded kernels.
+#![tactic(auto)]
+
+pub mod laws;

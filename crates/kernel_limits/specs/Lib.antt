@@ -1,0 +1,4 @@
+pub mod Listings
+pub mod Asked
+pub mod Sizes
+pub mod Laws

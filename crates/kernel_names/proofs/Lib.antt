@@ -1,0 +1,4 @@
+pub mod NameLaws
+mod TableLaws
+pub mod FaultLaws
+mod CellLaws

@@ -1,0 +1,5 @@
+pub mod Layers
+pub mod MadeTrees
+mod Collecting
+mod Depths
+mod MadeDepths
