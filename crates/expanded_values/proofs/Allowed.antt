@@ -24,7 +24,7 @@ use Rattle.kernel_ir.specs.Mentions.{node_allowed, test_allowed, is_allowed, is_
 use Rattle.kernel_ir.specs.Valid.{has_rule, may_fold, in_insn, in_rule}
 use Rattle.subst_rules.specs.Kernels.{expanded_kernel}
 use Rattle.subst_rules.proofs.Bools.{both, first_of_both, second_of_both, either_first}
-use Rattle.subst_rules.proofs.Made.{made-Literal, made-Leaf, made-Read, made-Call}
+use Rattle.expr_tree.proofs.Made.{made-Literal, made-Leaf, made-Read, made-Call}
 use Rattle.subst_rules.proofs.Expanding.{leaf_new}
 use Rattle.expanded_values.proofs.Passing.{passes_use, passing}
 use Rattle.expanded_values.proofs.Related.{Related, related, related_test}

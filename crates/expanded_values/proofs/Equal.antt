@@ -13,7 +13,7 @@ use Rattle.expr_tree.specs.Keeping.{all_parts}
 use Rattle.expr_tree.proofs.AllParts.{all_made, all_tests_made}
 use Rattle.quasi_forms.specs.Collected.{put_form}
 use Rattle.kernel_ir.specs.Expanded.{putting, expanding}
-use Rattle.subst_rules.proofs.Made.{of_expr, of_test, made-Literal, made-Leaf, made-Read, made-Call}
+use Rattle.expr_tree.proofs.Made.{of_expr, of_test, made-Literal, made-Leaf, made-Read, made-Call}
 use Rattle.subst_rules.proofs.Expanding.{leaf_new}
 use Rattle.expanded_values.proofs.Related.{Related, related, related_test}
 use Rattle.expanded_values.proofs.Standing.{put_new}

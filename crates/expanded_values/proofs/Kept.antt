@@ -18,7 +18,7 @@ use Rattle.kernel_ir.specs.Kinds.{Typing, Kinds, node_typing, test_typing, typin
 use Rattle.kernel_ir.specs.Mentions.{Listing, node_listed, test_listed, listed, listed_in_test, node_allowed, test_allowed, is_allowed}
 use Rattle.kernel_ir.specs.Valid.{in_rule}
 use Rattle.subst_rules.proofs.Bools.{first_of_both, second_of_both}
-use Rattle.subst_rules.proofs.Made.{made-Literal, made-Leaf, made-Read, made-Call}
+use Rattle.expr_tree.proofs.Made.{made-Literal, made-Leaf, made-Read, made-Call}
 use Rattle.subst_rules.proofs.Expanding.{end_is, test_end_is}
 use Rattle.expanded_values.proofs.Standing.{tree_at}
 use Rattle.expanded_values.proofs.Related.{Related, nothing, related_folds}

@@ -28,7 +28,7 @@ use Rattle.kernel_ir.specs.Expanded.{putting, body_at, expanding_to}
 use Rattle.kernel_ir.specs.Mentions.{is_allowed}
 use Rattle.kernel_ir.specs.Valid.{in_rule, params_of}
 use Rattle.inst_model.specs.Running.{within_rule, points_of, rule_meaning, world_to}
-use Rattle.subst_rules.proofs.Made.{made-Literal, made-Leaf, made-Read, made-Call}
+use Rattle.expr_tree.proofs.Made.{made-Literal, made-Leaf, made-Read, made-Call}
 use Rattle.subst_rules.proofs.Expanding.{leaf_new, end_is, test_end_is}
 use Rattle.quasi_forms.proofs.Likeness.{both as split}
 use Rattle.expanded_values.proofs.Passing.{equal_numbers, passes_use, passing}

@@ -22,7 +22,7 @@ use Rattle.kernel_ir.specs.Expanded.{putting, expanding, body_at, expanding_to}
 use Rattle.kernel_ir.specs.Mentions.{Allowed, node_allowed, test_allowed, is_allowed, is_allowed_test, listed, calls}
 use Rattle.kernel_ir.specs.Valid.{body_calls}
 use Rattle.subst_rules.proofs.Bools.{both, first_of_both, second_of_both}
-use Rattle.subst_rules.proofs.Made.{made-Literal, made-Leaf, made-Read, made-Call}
+use Rattle.expr_tree.proofs.Made.{made-Literal, made-Leaf, made-Read, made-Call}
 use Rattle.subst_rules.proofs.Expanding.{leaf_new}
 use Rattle.expanded_values.proofs.Passing.{passes_use, passing, passes}
 use Rattle.expanded_values.proofs.Related.{Related, nothing, related, related_test, related_folds, related_test_folds}

@@ -17,7 +17,7 @@ use Rattle.expr_tree.proofs.Layers.{outcome_node, outcome_test, outcome_expr, ma
 use Rattle.expr_tree.proofs.AllParts.{all_made, all_tests_made}
 use Rattle.expr_tree.proofs.Unreplaced.{trees_stay, tests_stay}
 use Rattle.subst_rules.proofs.Agreeing.{quiet, quiet_on_tests}
-use Rattle.subst_rules.proofs.Made.{of_expr, of_test, made-Neg, made-Inv, made-Shl, made-Shr, made-Bin, made-Pick, made-Cast, made-Fold, made-Words, made-Index, made-All, made-Any, made-Not}
+use Rattle.expr_tree.proofs.Made.{of_expr, of_test, made-Neg, made-Inv, made-Shl, made-Shr, made-Bin, made-Pick, made-Cast, made-Fold, made-Words, made-Index, made-All, made-Any, made-Not}
 
 module _ (r : Rules) (p : Parts) (A T B U : Type 0) (nd : Node-F A T A → A) (ts : Test-F A T A → T) (old_node : Node-F B U B → B) (old_test : Test-F B U B → U) (R : A → B → Type 0) (Q : T → U → Type 0) where
   abbrev pub by_node : Node → B

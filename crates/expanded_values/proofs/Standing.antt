@@ -21,7 +21,7 @@ use Rattle.kernel_ir.specs.Mentions.{node_allowed, test_allowed, is_allowed, is_
 use Rattle.kernel_ir.specs.NameSpace.{iname_vars}
 use Rattle.kernel_ir.specs.Valid.{params_of, has_rule, may_fold, in_insn, in_rule}
 use Rattle.subst_rules.proofs.Bools.{both, first_of_both, second_of_both}
-use Rattle.subst_rules.proofs.Made.{made-Literal, made-Leaf, made-Read, made-Call}
+use Rattle.expr_tree.proofs.Made.{made-Literal, made-Leaf, made-Read, made-Call}
 use Rattle.expanded_values.proofs.Passing.{passes_use, passing}
 use Rattle.expanded_values.proofs.Related.{Related, nothing, related, related_folds, related_test_folds}
 

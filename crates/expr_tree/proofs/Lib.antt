@@ -7,3 +7,4 @@ pub mod AllParts
 pub mod NodeCounts
 pub mod SampleTrees
 pub mod Unreplaced
+pub mod Made

@@ -91,8 +91,8 @@ fn fits_from(
 }
 
 /// Whether each form on the way to the product of the entries, and to the row that says that it is at most 2^31-1, is
-/// within its limits, if at most one entry has variables.
-pub(crate) fn fits_size(alloc: Global, shape: &[Form]) -> Result<bool, AllocError>
+/// within its limits, if at most one entry has variables. The only error is want of memory.
+pub fn fits_size(alloc: Global, shape: &[Form]) -> Result<bool, AllocError>
     ensures { IfOk result (λ fits. fits ≡ fits_size shape.now) }
 {
     match shape.split_first() {

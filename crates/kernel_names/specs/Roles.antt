@@ -99,6 +99,10 @@ may_store D (cell.Temp n) = true
 abbrev pub number_of : Declarations → List ℕ → ℕ
 number_of D name = unwrap_or (position (bytes_eq name) D.names) 0
 
+-- the name of a variable
+abbrev pub name_of : Declarations → ℕ → List ℕ
+name_of D var = unwrap_or (slice_get D.names var) []
+
 -- in the body of a rule with these parameters of its own
 abbrev pub body_roles : Declarations → List (List ℕ) → Roles
 body_roles D own name = if list_any (bytes_eq name) own then role.Parameter (number_of D name) else parameter_roles D name

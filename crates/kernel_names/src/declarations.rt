@@ -2,7 +2,7 @@
 ghost use Rattle.std.specs.Prelude.{◌≡◌, [], ◌∷◌, ◌++◌, List, ℕ, flat_map, bytes_eq, IfOk, OnOk};
 ghost use Rattle.quasi_forms.specs.Alike.{distinct};
 ghost use Rattle.kernel_names.specs.Said.{own_in};
-ghost use Rattle.kernel_names.specs.Roles.{declarations_of, kernel_roles, may_store, number_of, parameters_of, inames_of, parameter_in, iname_in};
+ghost use Rattle.kernel_names.specs.Roles.{declarations_of, kernel_roles, may_store, name_of, number_of, parameters_of, inames_of, parameter_in, iname_in};
 ghost use Rattle.kernel_names.specs.Lines.{faults_of};
 
 use crate::limit::LineFaults;
@@ -112,6 +112,13 @@ impl Declarations {
             Some(at) => at,
             None => 0,
         }
+    }
+
+    /// The name of a variable; empty where there is none. The only error is want of memory.
+    pub fn name(&self, alloc: Global, var: u32) -> Result<Name, AllocError>
+        ensures { IfOk result (λ n. n ≡ name_of self.now var) }
+    {
+        self.names.name(alloc, var)
     }
 
     /// The parameters of the kernel, in declared order.

@@ -14,4 +14,5 @@ mod table;
 pub use declarations::Declarations;
 pub use ids::Ids;
 pub use limit::{Limit, LineFaults};
+pub use said::{Said, Sort};
 pub use scopes::{BodyScope, ParameterScope};

@@ -1,5 +1,5 @@
 //! Names with numbers of 32 bits.
-ghost use Rattle.std.specs.Prelude.{◌≡◌, [], ◌∷◌, ◌++◌, length, bytes_eq, if◌then◌else◌, OnOk};
+ghost use Rattle.std.specs.Prelude.{◌≡◌, [], ◌∷◌, ◌++◌, length, bytes_eq, slice_get, unwrap_or, if◌then◌else◌, IfOk, OnOk};
 ghost use Rattle.std.specs.List.{list_any, position};
 
 use affine_rows::{Name, Names};
@@ -47,6 +47,16 @@ impl Numbering {
         match self.names.position(name) {
             Some(at) => Some(at as u32),
             None => None,
+        }
+    }
+
+    /// The name with a number; empty where there is none.
+    pub(crate) fn name(&self, alloc: Global, at: u32) -> Result<Name, AllocError>
+        ensures { IfOk result (λ n. n ≡ unwrap_or (slice_get self.now at) []) }
+    {
+        match self.names.get(at as usize) {
+            Some(text) => Name::from_str(alloc, text),
+            None => Name::from_str(alloc, ""),
         }
     }
 

@@ -8,7 +8,7 @@ use std::alloc::{AllocError, Global};
 
 /// As what a line says a name.
 #[derive(Clone, Copy, Debug, PartialEq, Eq)]
-pub(crate) enum Sort {
+pub enum Sort {
     /// Before the arrow of a domain: a parameter, if it is no variable yet.
     Parameter,
     /// Behind the arrow of a domain.
@@ -33,7 +33,7 @@ impl Sort {
 
 /// A name that a line says.
 #[derive(Drop)]
-pub(crate) struct Said {
+pub struct Said {
     pub(crate) sort: Sort,
     pub(crate) name: Name,
 }

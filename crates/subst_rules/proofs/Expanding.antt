@@ -21,7 +21,7 @@ use Rattle.kernel_ir.specs.Expanded.{put_in_layer, putting, used_in_layer, expan
 use Rattle.quasi_forms.specs.Fits.{fits}
 use Rattle.subst_rules.specs.Replaced.{within, put_layer, putting_within, answer, body_with, use_layer, replacing, refusal_to, test_refusal_to, is_no_use, use_free}
 use Rattle.subst_rules.proofs.Fusion.{fused, fused_test}
-use Rattle.subst_rules.proofs.Made.{made-Literal, made-Leaf, made-Read, made-Call, made-Neg, made-Inv, made-Shl, made-Shr, made-Bin, made-Pick, made-Cast, made-Fold, made-Words, made-Index, made-All, made-Any, made-Not}
+use Rattle.expr_tree.proofs.Made.{made-Literal, made-Leaf, made-Read, made-Call, made-Neg, made-Inv, made-Shl, made-Shr, made-Bin, made-Pick, made-Cast, made-Fold, made-Words, made-Index, made-All, made-Any, made-Not}
 use Rattle.subst_rules.proofs.Agreeing.{Agrees, agree, agree_on_tests, Quiet, quiet, quiet_on_tests}
 
 -- ---- new trees as a fold

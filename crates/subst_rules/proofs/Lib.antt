@@ -1,7 +1,6 @@
 pub mod Bools
 pub mod Walking
 pub mod Fusion
-pub mod Made
 pub mod SizeLaws
 pub mod Agreeing
 pub mod Expanding

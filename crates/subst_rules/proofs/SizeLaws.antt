@@ -17,7 +17,7 @@ use Rattle.kernel_ir.specs.Expanded.{put_in_layer, putting, used_in_layer, expan
 use Rattle.subst_rules.specs.declared.sizes.Size.{Size}
 use Rattle.subst_rules.specs.Sizes.{capped, leaf_size, over_one, over_two, joined, node_size, test_size, size_in, size_with, test_size_with, sizes_to, sizes_of, size_of, size_of_test}
 use Rattle.subst_rules.proofs.Fusion.{fused, fused_test}
-use Rattle.subst_rules.proofs.Made.{made-Literal, made-Leaf, made-Read, made-Call, made-Neg, made-Inv, made-Shl, made-Shr, made-Bin, made-Pick, made-Cast, made-Fold, made-Words, made-Index, made-All, made-Any, made-Not}
+use Rattle.expr_tree.proofs.Made.{made-Literal, made-Leaf, made-Read, made-Call, made-Neg, made-Inv, made-Shl, made-Shr, made-Bin, made-Pick, made-Cast, made-Fold, made-Words, made-Index, made-All, made-Any, made-Not}
 
 -- ---- the rounds
 

@@ -54,7 +54,9 @@ fn check_insn(alloc: Global, rules: &[SubstRule], insn: &Insn) -> Result<(), Fau
     check_uses(alloc, rules, insn.line, uses.as_slice())
 }
 
-fn check_uses(
+/// Rule 8, at a line: the first of these uses, each a rule and the count of its arguments, of which the count is not that of
+/// the rule's parameters. The only other error is want of memory.
+pub fn check_uses(
     alloc: Global,
     rules: &[SubstRule],
     line: u32,

@@ -36,8 +36,9 @@ fn rule_cycle(alloc: Global, kernel: &Kernel, rule: usize) -> Result<Refusal, Al
     Refusal::of_rule(alloc, Site::Kernel, 7).with_name(alloc, &name)
 }
 
-/// Whether the rule reaches itself.
-fn reaches_itself(
+/// Whether a rule reaches itself, where these are the uses of rules in each rule's body, each with the count of its arguments.
+/// The only error is want of memory.
+pub fn reaches_itself(
     alloc: Global,
     bodies: &[Listed<(u32, usize)>],
     rule: usize,

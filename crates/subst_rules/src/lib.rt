@@ -11,5 +11,7 @@ mod rounds;
 mod sizes;
 mod uses;
 
+pub use arities::check_uses;
+pub use cycles::reaches_itself;
 pub use expansion::expand;
 pub use uses::collect_uses;

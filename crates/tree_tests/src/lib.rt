@@ -6,8 +6,4 @@ mod index_forms;
 #[cfg(test)]
 mod kernels;
 #[cfg(test)]
-mod kinds;
-#[cfg(test)]
-mod printing;
-#[cfg(test)]
 mod trees;

@@ -1,9 +1,10 @@
-mod Walks
+pub mod Walks
 mod SameCalls
-mod Filling
+pub mod Filling
 mod LeadTables
 mod KindTables
-mod Marks
+pub mod Marks
+pub mod TempKinds
 mod AllowedCalls
 mod KernelRules
 mod Agreement

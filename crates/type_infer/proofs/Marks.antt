@@ -39,13 +39,13 @@ marked_more before marks rules i d h within marked r =
 
 -- ---- what is reached
 
-among_flat : (f : ℕ → List ℕ) (rules : List ℕ) (r c : ℕ) → is_among rules r ≡ true → is_among (f r) c ≡ true → is_among (flat_map f rules) c ≡ true
+pub among_flat : (f : ℕ → List ℕ) (rules : List ℕ) (r c : ℕ) → is_among rules r ≡ true → is_among (f r) c ≡ true → is_among (flat_map f rules) c ≡ true
 among_flat f [] r c h u = absurd (true≢false (sym h))
 among_flat f (s ∷ rules) r c h u = ⊎_elim
     (λ same. among_left (f s) (flat_map f rules) c (subst (λ z. is_among (f z) c ≡ true) (sym (same_number s r same)) u))
     (λ later. among_right (f s) (flat_map f rules) c (among_flat f rules r c later u)) (or_cases (nat_eq s r) (is_among rules r) h)
 
-flat_all : (P : ℕ → Type 0) (f : ℕ → List ℕ) (rules : List ℕ) → ((r : ℕ) → is_among rules r ≡ true → (c : ℕ) → is_among (f r) c ≡ true → P c) → (c : ℕ) → is_among (flat_map f rules) c ≡ true → P c
+pub flat_all : (P : ℕ → Type 0) (f : ℕ → List ℕ) (rules : List ℕ) → ((r : ℕ) → is_among rules r ≡ true → (c : ℕ) → is_among (f r) c ≡ true → P c) → (c : ℕ) → is_among (flat_map f rules) c ≡ true → P c
 flat_all P f [] h c e = absurd (true≢false (sym e))
 flat_all P f (s ∷ rules) h c e = ⊎_elim
     (λ first. h s (or_left (nat_eq s s) (is_among rules s) (eq-eqb s s refl)) c first)

@@ -37,13 +37,16 @@ own_kind None other = None
 own_kind (Some t) other = first_of_two t.kind other
 
 -- The kind of a temporary: the one that it has, or that of what leads the first value stored to it, on a way of at most so many temporaries.
-abbrev pub kind_to : Kernel → ℕ → ℕ → Option Kind
-kind_to K zero t = None
-kind_to K (suc n) t = own_kind (slice_get K.temps t) (leading_kind K (kind_to K n) (stored_leading K t))
+abbrev pub kind_to : Kernel → (ℕ → Option Leading) → ℕ → ℕ → Option Kind
+kind_to K stored zero t = None
+kind_to K stored (suc n) t = own_kind (slice_get K.temps t) (leading_kind K (kind_to K stored n) (stored t))
 
 -- a way that is longer than there are temporaries comes back to one of them
+abbrev pub kind_by : Kernel → (ℕ → Option Leading) → ℕ → Option Kind
+kind_by K stored = kind_to K stored (length K.temps)
+
 abbrev pub inferred_kind : Kernel → ℕ → Option Kind
-inferred_kind K = kind_to K (length K.temps)
+inferred_kind K = kind_by K (stored_leading K)
 
 abbrev pub with_kinds : (ℕ → Option Kind) → ℕ → List temp.Temp → List temp.Temp
 with_kinds kind at [] = []

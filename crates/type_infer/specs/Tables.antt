@@ -7,6 +7,7 @@ use Rattle.kernel_ir.specs.declared.kernel.Kernel.{Kernel}
 use Rattle.kernel_ir.specs.declared.kernel.Insn.{Insn}
 use Rattle.kernel_ir.specs.Mentions.{listed, listed_in, calls}
 use Rattle.kind_faults.specs.declared.faults.Mismatch.{Mismatch}
+use Rattle.type_infer.specs.declared.found.KindFaults.{KindFaults}
 use Rattle.type_infer.specs.declared.found.RuleKinds.{RuleKinds}
 use Rattle.type_infer.specs.declared.temps.Turn.{Turn}
 use Rattle.type_infer.specs.declared.temps.Turn.TheVariants.{Ends, Leads}
@@ -22,15 +23,15 @@ abbrev pub calls_in_insns : List Insn → List ℕ
 calls_in_insns [] = []
 calls_in_insns (A ∷ As) = (map (λ c. c.0) (listed_in calls A.test) ++ map (λ c. c.0) (listed calls A.value)) ++ calls_in_insns As
 
-abbrev pub fault_at : RuleKinds → Kind → Option Mismatch
-fault_at r I32 = r.i32
-fault_at r I64 = r.i64
-fault_at r U32 = r.u32
-fault_at r U64 = r.u64
+abbrev pub fault_at : KindFaults → Kind → Option Mismatch
+fault_at f I32 = f.i32
+fault_at f I64 = f.i64
+fault_at f U32 = f.u32
+fault_at f U64 = f.u64
 
 abbrev pub kept_judgement : Option RuleKinds → Judged
 kept_judgement None = no_judgement
-kept_judgement (Some r) = record { first = r.first; fault = fault_at r }
+kept_judgement (Some r) = record { first = r.first; fault = fault_at r.faults }
 
 abbrev pub judged_at : List RuleKinds → ℕ → Judged
 judged_at table rule = kept_judgement (slice_get table rule)

@@ -43,9 +43,12 @@ abbrev pub mismatch_at : ℕ → Option Mismatch → Option Refusal
 mismatch_at line None = None
 mismatch_at line (Some m) = Some (type_mismatch line m)
 
--- rule 10 at a line, for a temporary that has no kind
+-- rule 10 at a line, for a temporary of this name, unless it has a kind
+abbrev pub kind_unknown : ℕ → List ℕ → Option Kind → Option Refusal
+kind_unknown line name kind = if is_some kind then None else Some (record (refusal site.Kernel 10 (name ∷ []) []) { line = line })
+
 abbrev pub type_unknown : ℕ → temp.Temp → Option Refusal
-type_unknown line t = if is_some t.kind then None else Some (record (refusal site.Kernel 10 (t.name ∷ []) []) { line = line })
+type_unknown line t = kind_unknown line t.name t.kind
 
 -- ---- where they come, in a kernel with the kinds that were inferred
 

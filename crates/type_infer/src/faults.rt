@@ -2,7 +2,7 @@
 ghost use Rattle.std.specs.Prelude.{◌≡◌, slice_get};
 ghost use Rattle.kernel_ir.specs.Kinds.{cell_kind};
 ghost use Rattle.type_infer.specs.Judged.{judged_of, mismatch_of, mismatch_of_test};
-ghost use Rattle.type_infer.specs.Tables.{fault_at, kept_judgement, known_by};
+ghost use Rattle.type_infer.specs.Tables.{kept_judgement, known_by};
 
 use crate::found::RuleKinds;
 use expr_tree::{Cell, Expr, Node, Test};
@@ -26,20 +26,6 @@ pub(crate) fn cell_kind(kernel: &Kernel, cell: Cell) -> Option<Kind>
     }
 }
 
-impl RuleKinds {
-    /// The first fault of the body at a kind.
-    fn fault(&self, kind: Kind) -> Option<Mismatch>
-        ensures { result ≡ fault_at self.now kind }
-    {
-        match kind {
-            Kind::I32 => self.i32,
-            Kind::I64 => self.i64,
-            Kind::U32 => self.u32,
-            Kind::U64 => self.u64,
-        }
-    }
-}
-
 fn rule_first(rules: &[RuleKinds], rule: u32) -> Option<Kind>
     ensures { result ≡ (kept_judgement (slice_get rules.now rule)).first }
 {
@@ -53,7 +39,7 @@ fn rule_fault(rules: &[RuleKinds], rule: u32, kind: Kind) -> Option<Mismatch>
     ensures { result ≡ (kept_judgement (slice_get rules.now rule)).fault kind }
 {
     match rules.get(rule as usize) {
-        Some(kept) => kept.fault(kind),
+        Some(kept) => kept.faults.at(kind),
         None => unless(false, kind),
     }
 }

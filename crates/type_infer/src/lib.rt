@@ -13,4 +13,9 @@ mod tables;
 mod temps;
 mod used;
 
+pub use found::KindFaults;
 pub use inference::infer;
+pub use order::call_order;
+pub use refuse::{check_fault, check_kind};
+pub use temps::{is_temp, temp_kind};
+pub use used::{is_marked, used_rules};

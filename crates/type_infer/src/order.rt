@@ -123,8 +123,8 @@ fn new_marks(alloc: Global, uses: &[Listed<u32>]) -> Result<Vec<Mark>, AllocErro
     uses.iter().map(|_| Mark::New).collect(alloc)
 }
 
-/// All rules in order, each behind those that it uses.
-pub(crate) fn call_order(alloc: Global, uses: &[Listed<u32>]) -> Result<Vec<usize>, AllocError>
+/// All rules in order, each behind those that it uses, where no rule reaches itself. The only error is want of memory.
+pub fn call_order(alloc: Global, uses: &[Listed<u32>]) -> Result<Vec<usize>, AllocError>
     requires rules { UsesRules uses.now }
     requires acyclic { HasNoCycle uses.now }
     ensures { IfOk result (λ order. IsCallOrder uses.now order.items) }

@@ -6,11 +6,12 @@ ghost use Rattle.type_infer.specs.Orders.{marked_at};
 ghost use Rattle.kernel_ir.specs.Refusals.{Refuses};
 ghost use Rattle.kernel_ir.specs.Kinds.{cell_kind};
 ghost use Rattle.type_infer.specs.Tables.{known_by};
-ghost use Rattle.type_infer.specs.Typing.{body_mismatch, kinds_refusal, rules_refusal, insn_mismatch, insn_refusal, insns_refusal, found_word, mismatch_at, temps_refusal, type_mismatch, type_unknown, unknown_stored};
+ghost use Rattle.type_infer.specs.Typing.{body_mismatch, kinds_refusal, rules_refusal, insn_mismatch, insn_refusal, insns_refusal, found_word, kind_unknown, mismatch_at, temps_refusal, type_mismatch, type_unknown, unknown_stored};
 
 use crate::faults::{cell_kind, first_kind, mismatch, test_mismatch};
 use crate::found::RuleKinds;
 use crate::used::is_marked;
+use affine_rows::Name;
 use expr_tree::Cell;
 use kernel_ir::{Fault, Insn, Kernel, Refusal, Site, SubstRule, Temp};
 use kind_faults::{Mismatch, kind_word};
@@ -37,8 +38,8 @@ fn type_mismatch(alloc: Global, line: u32, fault: Mismatch) -> Result<Refusal, A
     Ok(refusal.at_line(line))
 }
 
-/// Refuses a fault.
-fn check_fault(alloc: Global, line: u32, fault: Option<Mismatch>) -> Result<(), Fault>
+/// Refuses a fault, by rule 9 at a line. The only other error is want of memory.
+pub fn check_fault(alloc: Global, line: u32, fault: Option<Mismatch>) -> Result<(), Fault>
     ensures { Refuses (mismatch_at line fault) result }
 {
     match fault {
@@ -47,17 +48,24 @@ fn check_fault(alloc: Global, line: u32, fault: Option<Mismatch>) -> Result<(), 
     }
 }
 
-/// Refuses a temporary without a kind, by rule 10 at a line.
-fn check_temp(alloc: Global, line: u32, temp: &Temp) -> Result<(), Fault>
-    ensures { Refuses (type_unknown line temp.now) result }
+/// Refuses a temporary of this name that has no kind, by rule 10 at a line. The only other error is want of memory.
+pub fn check_kind(alloc: Global, line: u32, name: &Name, kind: Option<Kind>) -> Result<(), Fault>
+    ensures { Refuses (kind_unknown line name.now kind) result }
 {
-    match temp.kind {
+    match kind {
         Some(_) => Ok(()),
         None => {
-            let refusal = Refusal::of_rule(alloc, Site::Kernel, 10).with_name(alloc, &temp.name)?;
+            let refusal = Refusal::of_rule(alloc, Site::Kernel, 10).with_name(alloc, name)?;
             Err(Fault::Rule(refusal.at_line(line)))
         }
     }
+}
+
+/// Refuses a temporary without a kind.
+fn check_temp(alloc: Global, line: u32, temp: &Temp) -> Result<(), Fault>
+    ensures { Refuses (type_unknown line temp.now) result }
+{
+    check_kind(alloc, line, &temp.name, temp.kind)
 }
 
 /// Refuses a store to a temporary without a kind.

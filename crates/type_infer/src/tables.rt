@@ -8,7 +8,7 @@ ghost use Rattle.type_infer.specs.Judged.{judged_of, known_in, no_judgement, rul
 
 use crate::calls::add_calls;
 use crate::faults::{first_kind, mismatch};
-use crate::found::RuleKinds;
+use crate::found::{KindFaults, RuleKinds};
 use crate::leads::leading;
 use affine_rows::Listed;
 use expr_tree::Expr;
@@ -76,10 +76,12 @@ impl RuleKinds {
     {
         RuleKinds {
             first: None,
-            i32: unless(false, Kind::I32),
-            i64: unless(false, Kind::I64),
-            u32: unless(false, Kind::U32),
-            u64: unless(false, Kind::U64),
+            faults: KindFaults {
+                i32: unless(false, Kind::I32),
+                i64: unless(false, Kind::I64),
+                u32: unless(false, Kind::U32),
+                u64: unless(false, Kind::U64),
+            },
         }
     }
 
@@ -89,10 +91,12 @@ impl RuleKinds {
     {
         RuleKinds {
             first: first_kind(body, kernel, table),
-            i32: mismatch(body, Kind::I32, kernel, table),
-            i64: mismatch(body, Kind::I64, kernel, table),
-            u32: mismatch(body, Kind::U32, kernel, table),
-            u64: mismatch(body, Kind::U64, kernel, table),
+            faults: KindFaults {
+                i32: mismatch(body, Kind::I32, kernel, table),
+                i64: mismatch(body, Kind::I64, kernel, table),
+                u32: mismatch(body, Kind::U32, kernel, table),
+                u64: mismatch(body, Kind::U64, kernel, table),
+            },
         }
     }
 }

@@ -5,7 +5,7 @@ ghost use Rattle.wrap_words.specs.declared.kind.Kind.{Kind};
 ghost use Rattle.kernel_ir.specs.Kinds.{array_kind};
 ghost use Rattle.kind_faults.specs.Leads.{leading_at};
 ghost use Rattle.type_infer.specs.Leads.{leading_to};
-ghost use Rattle.type_infer.specs.Inferred.{inferred_kind, is_temp, leading_kind, kind_to, stored_leading, with_kinds};
+ghost use Rattle.type_infer.specs.Inferred.{inferred_kind, is_temp, kind_by, kind_to, leading_kind, stored_leading, with_kinds};
 ghost use Rattle.type_infer.specs.Tables.{kind_after};
 
 use crate::leads::leading;
@@ -40,7 +40,8 @@ fn stored_leading(kernel: &Kernel, leads: &[Option<Leading>], temp: usize) -> Op
     }
 }
 
-fn is_temp(cell: Cell, temp: usize) -> bool
+/// Whether the cell is the temporary.
+pub fn is_temp(cell: Cell, temp: usize) -> bool
     ensures { result ≡ is_temp temp cell }
 {
     match cell {
@@ -88,8 +89,7 @@ fn turn_from(kernel: &Kernel, lead: Option<Leading>) -> Turn
 
 /// The step from a temporary, by what leads the values stored first.
 fn turn_at(kernel: &Kernel, stored: &[Option<Leading>], temp: usize) -> Turn
-    requires { (t : ℕ) → t < length kernel.now.temps → leading_at stored.now t ≡ stored_leading kernel.now t }
-    ensures { (n : ℕ) → kind_to kernel.now (suc n) temp ≡ kind_after (kind_to kernel.now n) result }
+    ensures { (n : ℕ) → kind_to kernel.now (leading_at stored.now) (suc n) temp ≡ kind_after (kind_to kernel.now (leading_at stored.now) n) result }
 {
     match kernel.temps.get(temp) {
         None => Turn::Ends(None),
@@ -100,10 +100,9 @@ fn turn_at(kernel: &Kernel, stored: &[Option<Leading>], temp: usize) -> Turn
     }
 }
 
-/// The kind of a temporary, if it has one.
-fn temp_kind(kernel: &Kernel, stored: &[Option<Leading>], temp: usize) -> Option<Kind>
-    requires { (t : ℕ) → t < length kernel.now.temps → leading_at stored.now t ≡ stored_leading kernel.now t }
-    ensures { result ≡ inferred_kind kernel.now temp }
+/// The kind of a temporary, if it has one, by what the values lead with that are stored first to each temporary.
+pub fn temp_kind(kernel: &Kernel, stored: &[Option<Leading>], temp: usize) -> Option<Kind>
+    ensures { result ≡ kind_by kernel.now (leading_at stored.now) temp }
 {
     let mut at = temp;
     for _turn in 0..kernel.temps.len() {
@@ -113,6 +112,14 @@ fn temp_kind(kernel: &Kernel, stored: &[Option<Leading>], temp: usize) -> Option
         }
     }
     None
+}
+
+/// The kind that is inferred, by the table of what the stored values lead with.
+fn inferred_kind(kernel: &Kernel, stored: &[Option<Leading>], temp: usize) -> Option<Kind>
+    requires { (t : ℕ) → t < length kernel.now.temps → leading_at stored.now t ≡ stored_leading kernel.now t }
+    ensures { result ≡ inferred_kind kernel.now temp }
+{
+    temp_kind(kernel, stored, temp)
 }
 
 /// The temporaries with their kinds.
@@ -127,7 +134,7 @@ pub(crate) fn inferred_temps(
     let stored = stored_leads(alloc, kernel, leads)?;
     let mut temps = Listed::new(alloc);
     for (at, temp) in kernel.temps.as_slice().iter().enumerate() {
-        let kind = temp_kind(kernel, stored.as_slice(), at);
+        let kind = inferred_kind(kernel, stored.as_slice(), at);
         temps.push(with_kind(temp.copy(alloc)?, kind))?;
     }
     Ok(temps)

@@ -46,7 +46,7 @@ fn mark(marks: &mut [bool], rules: &[u32])
 }
 
 /// Whether the rule is marked.
-pub(crate) fn is_marked(marks: &[bool], rule: usize) -> bool
+pub fn is_marked(marks: &[bool], rule: usize) -> bool
     ensures { result ≡ marked_at marks.now rule }
 {
     match marks.get(rule) {
@@ -88,8 +88,9 @@ fn mark_all(uses: &[Listed<u32>], order: &[usize], rules: &[u32], marks: &mut [b
     }
 }
 
-/// Whether each rule is one of these, or is used by them, also through others.
-pub(crate) fn used_rules(
+/// Whether each rule is one of these, or is used by them, also through others, by what each rule uses and an order in which
+/// each stands behind those that it uses. The only error is want of memory.
+pub fn used_rules(
     alloc: Global,
     uses: &[Listed<u32>],
     order: &[usize],

@@ -1,5 +1,4 @@
 pub mod Layers
-pub mod MadeTrees
 mod Collecting
-mod Depths
+pub mod Depths
 mod MadeDepths

@@ -24,7 +24,7 @@ use Rattle.untyped.specs.declared.tree.Untyped.{Untyped}
 use Rattle.untyped.specs.Indexes.{one}
 use Rattle.untyped.specs.Exprs.{Made, no_expr, no_test, value_made, prefix_made, shift_by, folding_op, infix_expr, joint_test, op_of, joint_of, words_test, index_test, compared, term_made, made_of, expr_of, test_of}
 use Rattle.untyped.specs.Depths.{Measure, below, no_index, term_measure, measure_of, tree_depth}
-use Rattle.untyped.proofs.MadeTrees.{made-Literal, made-Leaf, made-Read, made-Call, made-Neg, made-Inv, made-Shl, made-Shr, made-Bin, made-Pick, made-Cast, made-Fold, made-Words, made-Index, made-All, made-Any, made-Not}
+use Rattle.expr_tree.proofs.Made.{made-Literal, made-Leaf, made-Read, made-Call, made-Neg, made-Inv, made-Shl, made-Shr, made-Bin, made-Pick, made-Cast, made-Fold, made-Words, made-Index, made-All, made-Any, made-Not}
 use Rattle.untyped.proofs.Layers.{Linked, linked}
 
 -- no deeper than the measure, and an index expression where it says so

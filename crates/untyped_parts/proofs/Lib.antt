@@ -1,3 +1,3 @@
-mod Faultless
 mod FormVars
 mod PartedTrees
+pub mod SplitDepths

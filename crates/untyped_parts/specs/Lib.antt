@@ -1,5 +1,5 @@
 pub mod Mentions
+pub mod Marked
 pub mod Leads
 pub mod Rows
 pub mod Conjuncts
-pub mod Laws

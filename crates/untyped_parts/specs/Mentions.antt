@@ -51,7 +51,3 @@ mentions = listed (record { index = vars_in; read = vars_in_all; call = λ rule 
 -- The inames that reductions bind, an outer reduction before those in it.
 abbrev pub bound : Untyped → List ℕ
 bound = listed (record { index = λ form. []; read = λ place. []; call = λ rule arguments. []; fold = λ inames inner. inames ++ inner })
-
--- The rules that are used.
-abbrev pub uses : Untyped → List ℕ
-uses = listed (record { index = λ form. []; read = λ place. []; call = λ rule arguments. rule ∷ []; fold = λ inames inner. inner })

@@ -1,0 +1,12 @@
+mod SameUses
+mod Within
+mod UsedRules
+mod Ways
+mod Tables
+mod LeadTables
+mod AskedTables
+mod CellKinds
+mod Refusing
+mod Faultless
+mod FaultlessUses
+mod TypedTrees

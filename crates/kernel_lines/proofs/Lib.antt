@@ -1,0 +1,3 @@
+mod ConditionLaws
+mod KnownShapes
+mod Shallow
