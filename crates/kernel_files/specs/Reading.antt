@@ -1,0 +1,29 @@
+-- How bytes that are no kernel file are refused.
+use Rattle.std.specs.Prelude.{◌≡◌, ℕ, pos, nat_le, if◌then◌else◌, List, [], ◌∷◌, length, Option, Some, None, codes}
+use Rattle.std.specs.Option.{option_or}
+use Rattle.kernel_ir.specs.declared.fault.Refusal.{Refusal}
+use Rattle.kernel_ir.specs.declared.fault.Site.TheVariants.{Kernel}
+use Rattle.kernel_ir.specs.Refusals.{refusal, passed_limit}
+use Rattle.subst_rules.specs.Refused.{after}
+use Rattle.kernel_files.specs.FirstLine.{form_refusal}
+
+-- a file has at most 1048576 bytes
+abbrev pub bytes_refusal : List ℕ → Option Refusal
+bytes_refusal bytes = if nat_le (length bytes) 1048576 then None else Some (passed_limit Kernel (codes "bytes") (pos 1048576))
+
+-- what is asked before the syntax
+abbrev pub front_refusal : List ℕ → Option Refusal
+front_refusal bytes = option_or (bytes_refusal bytes) (form_refusal bytes)
+
+-- the text is no kernel file after so many bytes of a line
+abbrev pub syntax_refusal : ℕ → ℕ → Refusal
+syntax_refusal line count = record (refusal Kernel 4 [] (pos count ∷ [])) { line = line }
+
+-- by rule 4 at some place, or not
+abbrev pub IsSyntaxRefusal : Option Refusal → Type 0
+IsSyntaxRefusal None = Unit {0}
+IsSyntaxRefusal (Some r) = (line : ℕ) × (count : ℕ) × (r ≡ syntax_refusal line count)
+
+-- How bytes are refused that are no kernel file.
+abbrev pub IsFileRefusal : List ℕ → Option Refusal → Type 0
+IsFileRefusal bytes = after (front_refusal bytes) IsSyntaxRefusal

@@ -1,0 +1,4 @@
+//! Kernels of files in which no line is refused are formed.
+#![tactic(auto)]
+
+pub mod laws;
