@@ -22,6 +22,10 @@ const MOST_TIMES: u64 = 1 << 63;
 /// The most different floors that forms may have together.
 const MOST_FLOORS: usize = 32;
 
+/// The most floors that a form gets room for, each counted as often as it occurs. A form is a tree, and in a chain of
+/// remainders, `i % 3 % 3 ..`, each of them holds all before it twice.
+const ROOM: usize = 65_536;
+
 /// The sum and the constant of a form or a floor, 2^64 - 1 standing for all that is more.
 #[derive(Clone, Copy)]
 struct Counts {
@@ -229,13 +233,35 @@ pub(crate) fn small(quasi: Quasi) -> Result<Form, FormFault>
     Ok(Form::new(quasi))
 }
 
-/// The form, where it has at most 32 different floors.
+/// The room that is left behind the floors of a form, 0 where it does not last.
+#[cycle(room)]
+fn room_behind(form: &Quasi, room: usize) -> usize {
+    room_behind_floors(form.floors.as_slice(), room)
+}
+
+#[cycle(room)]
+fn room_behind_floors(floors: &[Floor], room: usize) -> usize {
+    let mut left = room;
+    for floor in floors {
+        if left == 0 {
+            return 0;
+        }
+        left = room_behind(&floor.inner, left - 1);
+    }
+    left
+}
+
+/// The form, where it has at most 32 different floors. There is want of memory too where it has 65,536 floors or more, each
+/// counted as often as it occurs.
 pub(crate) fn limited(alloc: Global, form: Form) -> Result<Form, FormFault>
     ensures form { IfOk result (λ f. f ≡ form) }
     ensures within { OnOk result (IsWithin form) }
     ensures limit { result ≡ Err FormFault.Limit → IsWithin form → ⊥ }
     ensures affine { result ≢ Err FormFault.NotAffine }
 {
+    if room_behind(form.quasi(), ROOM) == 0 {
+        return Err(FormFault::OutOfMemory);
+    }
     let few = few_floors(alloc, slice::from_ref(&form))?;
     if !few {
         return Err(FormFault::Limit);
