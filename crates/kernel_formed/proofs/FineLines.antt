@@ -1,11 +1,10 @@
 -- Files in which no line is refused: nothing is wrong in any line.
-use Rattle.std.proofs.Common.{◌≡◌, ℕ, ◌+◌, Bool, List, [], ◌∷◌, ◌++◌, length, slice_get, ap, refl, sym, subst, ◌∙◌, append_assoc}
+use Rattle.std.proofs.Common.{◌≡◌, ℕ, ◌+◌, Bool, List, [], ◌∷◌, ◌++◌, length, slice_get, ap, refl, sym, ◌∙◌, append_assoc}
 use Rattle.std.specs.Prelude.{Option, Some, None}
 use Rattle.std.specs.Option.{option_or}
 use Rattle.std.proofs.lemmas.List.{length-append}
 use Rattle.kernel_grammar.specs.declared.file.Entry.{Entry}
 use Rattle.kernel_grammar.specs.declared.file.KernelFile.{KernelFile}
-use Rattle.kernel_ir.specs.declared.fault.Refusal.{Refusal}
 use Rattle.kernel_names.specs.declared.declarations.Declarations.{Declarations}
 use Rattle.kernel_names.specs.declared.limit.Limit.{Limit}
 use Rattle.kernel_names.specs.declared.limit.LineFaults.{LineFaults}
@@ -16,7 +15,7 @@ use Rattle.kernel_names.specs.Roles.{declarations_of}
 use Rattle.kernel_names.specs.Lines.{no_faults, first_faults, line_faults, faults_behind}
 use Rattle.kernel_lines.specs.Refusals.{line_refusal}
 use Rattle.kernel_files.specs.declared.files.ReadLines.{ReadLines}
-use Rattle.kernel_files.specs.Files.{no_lines, entry_faults, entry_refusal, after_names, names_before, refusal_from, with_entry, lines_refusal}
+use Rattle.kernel_files.specs.Files.{no_lines, entry_faults, entry_refusal, after_names, refusal_from, with_entry, lines_refusal}
 
 -- ---- one line
 

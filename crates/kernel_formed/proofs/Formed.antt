@@ -1,8 +1,8 @@
 -- The kernel of a file in which no line is refused is formed.
-use Rattle.std.proofs.Common.{◌≡◌, ℕ, Bool, true, false, ◌&&◌, nat_eq, List, [], ◌∷◌, ◌++◌, map, ap, refl, sym, subst, ◌∙◌, bytes_eq}
-use Rattle.std.specs.Prelude.{Option, Some, None, if◌then◌else◌, length, flat_map, All}
+use Rattle.std.proofs.Common.{◌≡◌, ℕ, Bool, true, ◌&&◌, nat_eq, List, [], ◌∷◌, ◌++◌, map, ap, refl, sym, subst, ◌∙◌, bytes_eq}
+use Rattle.std.specs.Prelude.{Some, None, if◌then◌else◌, length}
 use Rattle.std.specs.Option.{option_map}
-use Rattle.std.specs.List.{list_all, list_any, AllByRecursion}
+use Rattle.std.specs.List.{list_all, AllByRecursion}
 use Rattle.std.specs.List.Sorted.{IsPermutation}
 use Rattle.std.proofs.lemmas.List.Elements.{All-from_recursion, recursion_from_All}
 use Rattle.std.proofs.lemmas.List.Folds.{list_all-map}
@@ -10,13 +10,11 @@ use Rattle.std.proofs.lemmas.List.Sorted.{IsPermutation-refl}
 use Rattle.std.proofs.lemmas.Bool.{and_parts}
 use Rattle.kernel_grammar.specs.declared.file.Entry.{Entry}
 use Rattle.kernel_grammar.specs.declared.file.KernelFile.{KernelFile}
-use Rattle.kernel_grammar.specs.declared.item.Declared.{Declared}
 use Rattle.kernel_grammar.specs.declared.item.InsnOption.{InsnOption}
 use Rattle.kernel_grammar.specs.declared.item.Item.{Item}
 use Rattle.kernel_grammar.specs.declared.item.Item.TheVariants as item
 use Rattle.kernel_grammar.specs.declared.item.Stored.{Stored}
 use Rattle.kernel_grammar.specs.declared.step.Step.{Step}
-use Rattle.kernel_ir.specs.declared.fault.Refusal.{Refusal}
 use Rattle.kernel_ir.specs.declared.kernel.Iname.{Iname}
 use Rattle.kernel_ir.specs.declared.kernel.Insn.{Insn}
 use Rattle.kernel_ir.specs.declared.kernel.Kernel.{Kernel}
@@ -31,29 +29,28 @@ use Rattle.kernel_names.specs.Lines.{no_faults, first_faults, faults_behind}
 use Rattle.kernel_names.specs.Roles.{declarations_of, kernel_roles, inames_of, name_of}
 use Rattle.kernel_names.specs.Said.{said_in, said_by, own_in}
 use Rattle.kernel_lines.specs.declared.lines.KernelParts.{KernelParts}
-use Rattle.kernel_lines.specs.Lines.{no_parts, with_line, parts_behind}
+use Rattle.kernel_lines.specs.Lines.{no_parts, with_line}
 use Rattle.kernel_lines.specs.Places.{forms_faults}
 use Rattle.kernel_lines.specs.Stores.{stored_cell}
 use Rattle.kernel_lines.specs.Values.{stored_faults}
 use Rattle.kernel_files.specs.declared.files.ReadLines.{ReadLines}
-use Rattle.kernel_files.specs.declared.insns.ReadInsn.{ReadInsn}
 use Rattle.kernel_files.specs.Options.{options_of}
 use Rattle.kernel_files.specs.Insns.{cell_faults, read_insn, insn_of, size_with, whole_faults, inames_among, mentioned, bound_in, first_taken}
-use Rattle.kernel_files.specs.Files.{plain, no_lines, next_id, next_taken, insn_faults, with_item, entry_faults, with_entry, entries_behind, lines_of, kernel_of, lines_refusal}
+use Rattle.kernel_files.specs.Files.{plain, no_lines, next_id, next_taken, insn_faults, with_item, entry_faults, with_entry, entries_behind, kernel_of, lines_refusal}
 use Rattle.kernel_formed.specs.NameLaws.{AreIdentifiers, IsOfLines, NamesAreThere, AreVariables}
 use Rattle.kernel_formed.specs.Shapes.{is_whole}
 use Rattle.kernel_formed.specs.Written.{option_fits, steps_fit, is_written, AreWritten}
 use Rattle.kernel_formed.proofs.Declared.{names_declared}
 use Rattle.kernel_formed.proofs.Joining.{all_both}
 use Rattle.kernel_formed.proofs.FineLines.{AreFine, both_fine, either_none, file_fine}
-use Rattle.kernel_formed.proofs.IdLists.{HasIds, file_ids}
+use Rattle.kernel_formed.proofs.IdLists.{file_ids}
 use Rattle.kernel_formed.proofs.OptionsFine.{deps_known}
 use Rattle.kernel_formed.proofs.PartsFormed.{PartsFormed, same_parts, all_parts_fine, parts_formed}
 use Rattle.kernel_formed.proofs.InsnFormed.{insn_formed, read_well, none_name}
 
 -- ---- names
 
-untaken : (D : Declarations) (ids : List (List ℕ)) (taken : List Bool) (said : List Said) (k : ReadLines) (es : List Entry) → AreFine D ids taken said k es → AllByRecursion (λ f. f.taken ≡ None) (faults_behind said es)
+pub untaken : (D : Declarations) (ids : List (List ℕ)) (taken : List Bool) (said : List Said) (k : ReadLines) (es : List Entry) → AreFine D ids taken said k es → AllByRecursion (λ f. f.taken ≡ None) (faults_behind said es)
 untaken D ids taken said k [] h = tt
 untaken D ids taken said k (e ∷ es) h = (ap (λ (f : LineFaults). f.taken) h.0, untaken D ids taken (said ++ said_in e.item) (with_entry D ids k e) es h.1.1)
 
@@ -130,6 +127,20 @@ named_insns K (A ∷ As) h k =
 
 -- ---- the kernel
 
+-- a file's kernel is one of its lines
+pub of_lines : (file : KernelFile) → IsOfLines (kernel_of file) file.entries
+of_lines file =
+    let D = declarations_of file.entries in
+    let same = same_parts D (ids_of file.entries) no_lines file.entries in
+    record {
+      names = refl;
+      params = refl;
+      inames = plain_vars (inames_of D);
+      arrays = ap (λ (p : KernelParts). p.arrays) same;
+      temps = ap (λ (p : KernelParts). p.temps) same;
+      rules = ap (λ (p : KernelParts). p.rules) same;
+    }
+
 pub file_formed : (file : KernelFile) → AreWritten file.entries → lines_refusal file ≡ None → IsFormed (kernel_of file)
 file_formed file written h =
     let es = file.entries in
@@ -140,9 +151,8 @@ file_formed file written h =
     let fine = file_fine file h in
     let has_ids = file_ids file written fine in
     let same = same_parts D ids no_lines es in
-    let inames : iname_vars K ≡ inames_of D = plain_vars (inames_of D) in
-    let lines : IsOfLines K es =
-    record { names = refl; params = refl; inames = inames; arrays = ap (λ (p : KernelParts). p.arrays) same; temps = ap (λ (p : KernelParts). p.temps) same; rules = ap (λ (p : KernelParts). p.rules) same } in
+    let lines = of_lines file in
+    let inames = lines.inames in
     let there = names_declared K es lines (All-from_recursion (λ (f : LineFaults). f.taken ≡ None) (faults_behind [] es) (untaken D ids taken [] no_lines es fine)) (identifiers es written) in
     let parts = subst (λ (p : KernelParts). PartsFormed K D es refl there p) (sym same)
     (parts_formed K D es refl there no_parts es (recursion_from_All (λ (e : Entry). AreVariables D (own_in e.item)) es there.own) written (all_parts_fine D ids taken [] no_lines es fine)

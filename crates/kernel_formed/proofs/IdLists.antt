@@ -1,5 +1,5 @@
 -- The ids of the instructions of a file in which no line is refused.
-use Rattle.std.proofs.Common.{◌≡◌, ℕ, ◌+◌, ◌*◌, ◌≤◌, ◌<◌, ◌^◌, arith, Bool, true, false, ◌&&◌, ◌||◌, cond, nat_lt, nat_le, min, List, [], ◌∷◌, ◌++◌, map, length, slice_get, ap, refl, sym, subst, ◌∙◌, append_assoc, append-nil, bytes_eq}
+use Rattle.std.proofs.Common.{◌≡◌, ℕ, ◌+◌, ◌*◌, ◌≤◌, ◌<◌, ◌^◌, arith, Bool, true, false, ◌&&◌, ◌||◌, nat_lt, min, List, [], ◌∷◌, ◌++◌, map, length, slice_get, ap, refl, sym, subst, ◌∙◌, append_assoc, append-nil, bytes_eq}
 use Rattle.std.specs.Prelude.{Option, Some, None, unwrap_or, if◌then◌else◌, codes, flat_map}
 use Rattle.std.specs.Option.{option_or, option_map}
 use Rattle.std.specs.List.{list_all, list_any}
@@ -10,7 +10,7 @@ use Rattle.std.proofs.lemmas.Bool.{ltb-false}
 use Rattle.std.proofs.lemmas.Bool.Decides.{nat_tests}
 use Rattle.std.proofs.lemmas.Str.Parse.{digit_from_value}
 use Rattle.std.proofs.lemmas.List.{length-append, length-map, map-append}
-use Rattle.std.proofs.lemmas.List.Folds.{list_all-append, list_any-append}
+use Rattle.std.proofs.lemmas.List.Folds.{list_all-append}
 use Rattle.std.proofs.lemmas.Fmt.{decimal_is_IsNumeral}
 use Rattle.std.proofs.lemmas.Bool.{and_from, and_parts}
 use Rattle.kernel_grammar.specs.declared.file.Entry.{Entry}
@@ -35,11 +35,10 @@ use Rattle.kernel_names.specs.Said.{said_in}
 use Rattle.kernel_names.proofs.NameLaws.{either_side}
 use Rattle.kernel_lines.specs.declared.lines.KernelParts.{KernelParts}
 use Rattle.kernel_files.specs.declared.files.ReadLines.{ReadLines}
-use Rattle.kernel_files.specs.declared.insns.ReadInsn.{ReadInsn}
 use Rattle.kernel_files.specs.Files.{next_id, next_taken, no_lines, insn_faults, with_item, entry_faults, with_entry, entries_behind, lines_of}
 use Rattle.kernel_lines.specs.Lines.{with_line}
 use Rattle.kernel_grammar.specs.declared.file.KernelFile.{KernelFile}
-use Rattle.kernel_files.specs.Insns.{read_insn, insn_of, trees, widths, size_with, whole_limit, whole_faults, inames_among, mentioned, bound_in, first_taken}
+use Rattle.kernel_files.specs.Insns.{read_insn, insn_of, trees, widths, size_with, whole_faults, inames_among, mentioned, bound_in, first_taken}
 use Rattle.kernel_formed.specs.Shapes.{is_whole}
 use Rattle.kernel_formed.specs.Written.{option_fits, steps_fit, is_written, AreWritten}
 use Rattle.kernel_formed.proofs.NumberLists.{differ_more}

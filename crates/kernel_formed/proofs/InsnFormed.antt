@@ -1,15 +1,13 @@
 -- An instruction of a file in which no line is refused.
 use Rattle.std.proofs.Common.{◌≡◌, ℕ, Bool, true, false, ◌&&◌, ◌||◌, not, nat_eq, nat_le, List, [], ◌∷◌, ◌++◌, map, length, ap, refl, sym, subst, ◌∙◌, bytes_eq, append-nil, ◌⊎◌, inl, inr}
 use Rattle.std.specs.Prelude.{Option, Some, None, if◌then◌else◌, flat_map, unwrap_or, is_some}
-use Rattle.std.specs.Option.{option_or, option_map}
+use Rattle.std.specs.Option.{option_map}
 use Rattle.std.specs.List.{list_all, list_any, filter}
 use Rattle.std.proofs.lemmas.List.{length-map}
 use Rattle.affine_rows.specs.declared.quasi.Quasi.{Quasi}
 use Rattle.affine_rows.proofs.NameSets.{any_map}
 use Rattle.expr_tree.specs.declared.tree.Cell.{Cell}
 use Rattle.expr_tree.specs.declared.tree.Cell.TheVariants.{Temp}
-use Rattle.expr_tree.specs.declared.tree.Test.{Test}
-use Rattle.expr_tree.specs.Meaning.{combines}
 use Rattle.expr_tree.specs.Scenes.{is_among, mentions_only, each_var}
 use Rattle.std.proofs.lemmas.Bool.{and_from, and_parts}
 use Rattle.kernel_grammar.specs.declared.file.Entry.{Entry}
@@ -21,19 +19,17 @@ use Rattle.kernel_grammar.specs.declared.step.Folding.TheVariants as folding
 use Rattle.kernel_grammar.specs.declared.step.Step.{Step}
 use Rattle.kernel_ir.specs.declared.kernel.Insn.{Insn}
 use Rattle.kernel_ir.specs.declared.kernel.Kernel.{Kernel}
-use Rattle.kernel_ir.specs.Limits.{all_inames}
-use Rattle.kernel_ir.specs.Mentions.{has_cell, is_allowed_test, listed, listed_in, listed_in_test, folded}
+use Rattle.kernel_ir.specs.Mentions.{has_cell, listed, listed_in, listed_in_test, folded}
 use Rattle.kernel_ir.specs.NameSpace.{all_differ, is_identifier, iname_vars}
 use Rattle.kernel_ir.specs.Valid as valid
 use Rattle.kernel_ir.specs.Valid.{IsInsn, in_insn, test_allowed, may_combine}
-use Rattle.untyped.specs.declared.faults.Faults.{Faults}
 use Rattle.untyped.specs.declared.reading.Reading.{Reading}
 use Rattle.untyped.specs.declared.scope.Role.{Role}
 use Rattle.untyped.specs.declared.scope.Role.TheVariants as role
 use Rattle.untyped.specs.declared.tree.Term.TheVariants as term
 use Rattle.untyped.specs.declared.tree.Untyped.{Untyped}
 use Rattle.untyped.specs.Exprs.{expr_of, test_of}
-use Rattle.untyped.specs.Readings.{tree_of, untyped_of}
+use Rattle.untyped.specs.Readings.{untyped_of}
 use Rattle.untyped.proofs.Layers.{at-Read}
 use Rattle.untyped_parts.specs.Conjuncts.{split_of}
 use Rattle.untyped_parts.specs.Mentions.{term_listed, vars_in, vars_in_all, mentions, bound}
@@ -41,14 +37,14 @@ use Rattle.kernel_names.specs.declared.declarations.Declarations.{Declarations}
 use Rattle.kernel_names.specs.declared.limit.LineFaults.{LineFaults}
 use Rattle.kernel_names.specs.Lines.{no_faults, first_faults}
 use Rattle.kernel_names.specs.Roles.{kernel_roles, may_store, name_of, inames_of}
-use Rattle.kernel_lines.specs.Places.{value_faults, index_of, forms_of, forms_faults}
+use Rattle.kernel_lines.specs.Places.{index_of, forms_faults}
 use Rattle.kernel_lines.specs.Stores.{cell_as, stored_cell, deps_of}
 use Rattle.kernel_lines.specs.Values.{is_update, stored_faults}
 use Rattle.kernel_files.specs.declared.insns.ReadInsn.{ReadInsn}
 use Rattle.kernel_files.specs.declared.options.Predicate.{Predicate}
 use Rattle.kernel_files.specs.Options.{options_of}
-use Rattle.kernel_files.specs.Insns.{cell_faults, trees_in, trees_of, read_insn, trees, mentioned, bound_in, inames_among, first_taken, storing_of, rows_of, rest_in, insn_of, whole_faults}
-use Rattle.kernel_formed.specs.ExpressionLaws.{IsRest, IsSplit}
+use Rattle.kernel_files.specs.Insns.{cell_faults, trees_in, read_insn, mentioned, bound_in, inames_among, first_taken, storing_of, rows_of, rest_in, insn_of}
+use Rattle.kernel_formed.specs.ExpressionLaws.{IsSplit}
 use Rattle.kernel_formed.specs.NameLaws.{NamesAreThere}
 use Rattle.kernel_formed.specs.Shapes.{is_whole}
 use Rattle.kernel_formed.specs.Sound.{Meant, IsFine, IsScoped, are_new, sound}
@@ -68,7 +64,7 @@ use Rattle.kernel_formed.proofs.PlacesFine.{fine_value, first_off, forms_pass}
 use Rattle.kernel_formed.proofs.SoundNames.{mentioning, binding, places_pass, vars_pass_in, inames_pass_in}
 use Rattle.kernel_formed.proofs.SoundReadings.{said_sound}
 use Rattle.kernel_formed.proofs.TakenLists as taken
-use Rattle.kernel_formed.proofs.FineLines.{both_fine, either_none}
+use Rattle.kernel_formed.proofs.FineLines.{both_fine}
 
 -- ---- the cell
 

@@ -33,3 +33,4 @@ mod PartsFormed
 mod OptionsFine
 mod InsnFormed
 mod Formed
+pub mod MadeOfTrees

@@ -1,27 +1,22 @@
 -- The options of an instruction in which nothing is wrong.
-use Rattle.std.proofs.Common.{◌≡◌, ℕ, max, nat_le, Bool, true, false, ◌&&◌, cond, List, [], ◌∷◌, ◌++◌, ap, refl, sym, subst, ◌∙◌, bytes_eq}
-use Rattle.std.specs.Prelude.{Option, Some, None, if◌then◌else◌, flat_map}
+use Rattle.std.proofs.Common.{◌≡◌, ℕ, max, nat_le, Bool, true, false, cond, List, [], ◌∷◌, ap, refl, ◌∙◌, bytes_eq}
+use Rattle.std.specs.Prelude.{Option, Some, None, if◌then◌else◌}
 use Rattle.std.specs.List.{list_all, list_any}
 use Rattle.std.proofs.lemmas.Bool.{and_from, and_parts}
 use Rattle.kernel_grammar.specs.declared.item.InsnOption.{InsnOption}
 use Rattle.kernel_grammar.specs.declared.item.InsnOption.TheVariants.{Id, Dep, Inames, If}
-use Rattle.kernel_grammar.specs.declared.step.Step.{Step}
 use Rattle.kernel_grammar.specs.declared.step.Infix.TheVariants.{And}
-use Rattle.untyped.specs.declared.reading.Reading.{Reading}
-use Rattle.untyped.specs.declared.tree.Term.TheVariants as term
-use Rattle.untyped.specs.declared.tree.Untyped.{Untyped}
-use Rattle.untyped.specs.Readings.{tree_of, untyped_of, inames_in}
+use Rattle.untyped.specs.Readings.{untyped_of}
 use Rattle.untyped.proofs.Layers.{at-Infix}
 use Rattle.kernel_names.specs.declared.declarations.Declarations.{Declarations}
 use Rattle.kernel_names.specs.declared.limit.LineFaults.{LineFaults}
-use Rattle.kernel_names.specs.Lines.{no_faults, first_faults}
+use Rattle.kernel_names.specs.Lines.{no_faults}
 use Rattle.kernel_names.specs.Roles.{kernel_roles}
 use Rattle.kernel_lines.specs.Places.{value_faults}
 use Rattle.kernel_lines.specs.Stores.{first_unknown, unknown_in, ids_in, deps_of}
 use Rattle.kernel_files.specs.declared.options.Predicate.{Predicate}
 use Rattle.kernel_files.specs.declared.options.ReadOptions.{ReadOptions}
-use Rattle.kernel_files.specs.Options.{no_options, unknown_only, predicate_of, conjunction, joined, together_faults, if_faults, with_unknown, with_if, with_inames, with_option, options_behind, options_of}
-use Rattle.kernel_formed.specs.Shapes.{is_whole}
+use Rattle.kernel_files.specs.Options.{no_options, unknown_only, predicate_of, conjunction, joined, together_faults, if_faults, with_option, options_behind, options_of}
 use Rattle.kernel_formed.specs.Sound.{Meant, FitsRoles, term_sound, sound}
 use Rattle.kernel_formed.specs.Written.{option_fits}
 use Rattle.kernel_formed.proofs.SoundReadings.{said_sound}

@@ -1,5 +1,5 @@
 -- The rows, assumptions, arrays and rules of a file in which no line is refused.
-use Rattle.std.proofs.Common.{◌≡◌, ℕ, Bool, true, false, ◌&&◌, not, nat_eq, nat_lt, List, [], ◌∷◌, ◌++◌, map, length, ap, refl, sym, subst, ◌∙◌, bytes_eq}
+use Rattle.std.proofs.Common.{◌≡◌, ℕ, Bool, true, not, nat_eq, nat_lt, List, [], ◌∷◌, ◌++◌, map, length, ap, refl, sym, subst, ◌∙◌, bytes_eq}
 use Rattle.std.specs.Prelude.{codes}
 use Rattle.std.specs.List.{list_all, AllByRecursion}
 use Rattle.std.proofs.lemmas.List.{length-map}
@@ -8,7 +8,6 @@ use Rattle.expr_tree.specs.Scenes.{is_among, mentions_only}
 use Rattle.quasi_forms.specs.Alike.{distinct}
 use Rattle.std.proofs.lemmas.Bool.{and_from, and_parts}
 use Rattle.kernel_grammar.specs.declared.file.Entry.{Entry}
-use Rattle.kernel_grammar.specs.declared.item.Declared.{Declared}
 use Rattle.kernel_grammar.specs.declared.item.Item.{Item}
 use Rattle.kernel_grammar.specs.declared.item.Item.TheVariants as item
 use Rattle.kernel_grammar.specs.declared.step.Step.{Step}
@@ -17,13 +16,12 @@ use Rattle.kernel_ir.specs.declared.kernel.Array as array
 use Rattle.kernel_ir.specs.declared.kernel.SubstRule.{SubstRule}
 use Rattle.kernel_ir.specs.NameSpace.{is_identifier, all_differ, iname_vars}
 use Rattle.kernel_ir.specs.Valid.{IsRule, in_rule}
-use Rattle.untyped.specs.declared.tree.Untyped.{Untyped}
 use Rattle.untyped.specs.Readings.{tree_of, untyped_of}
-use Rattle.untyped_parts.specs.Mentions.{mentions, bound}
+use Rattle.untyped_parts.specs.Mentions.{bound}
 use Rattle.kernel_names.specs.declared.declarations.Declarations.{Declarations}
 use Rattle.kernel_names.specs.declared.said.Said.{Said}
 use Rattle.kernel_names.specs.Said.{said_in, own_in}
-use Rattle.kernel_names.specs.Roles.{kernel_roles, parameter_roles, body_roles, number_of}
+use Rattle.kernel_names.specs.Roles.{kernel_roles, parameter_roles, number_of}
 use Rattle.kernel_names.specs.Lines.{no_faults}
 use Rattle.kernel_lines.specs.declared.lines.KernelParts.{KernelParts}
 use Rattle.kernel_lines.specs.Conditions.{chains_of}
@@ -34,8 +32,8 @@ use Rattle.kernel_files.specs.declared.files.ReadLines.{ReadLines}
 use Rattle.kernel_files.specs.Files.{with_item, entry_faults, with_entry, entries_behind}
 use Rattle.kernel_formed.specs.NameLaws.{NamesAreThere, AreVariables}
 use Rattle.kernel_formed.specs.Shapes.{is_whole}
-use Rattle.kernel_formed.specs.Sound.{IsScoped, sound}
-use Rattle.kernel_formed.specs.Written.{chain_fits, steps_fit, is_written, AreWritten}
+use Rattle.kernel_formed.specs.Sound.{IsScoped}
+use Rattle.kernel_formed.specs.Written.{steps_fit, is_written, AreWritten}
 use Rattle.kernel_formed.proofs.AllowedTrees.{stands_in}
 use Rattle.kernel_formed.proofs.SoundReadings.{said_sound}
 use Rattle.kernel_formed.proofs.SoundNames.{vars_pass_in, inames_pass_in}

@@ -1,6 +1,6 @@
 -- Expressions in their places, where nothing is wrong with them.
-use Rattle.std.proofs.Common.{◌≡◌, ℕ, Bool, true, false, ◌&&◌, ◌||◌, List, [], ◌∷◌, ◌++◌, map, ap, refl, sym, subst, ◌∙◌}
-use Rattle.std.specs.Prelude.{Option, Some, None, if◌then◌else◌, flat_map}
+use Rattle.std.proofs.Common.{◌≡◌, ℕ, Bool, true, false, ◌||◌, List, [], ◌∷◌, map, ap, refl, sym, subst}
+use Rattle.std.specs.Prelude.{Option, Some, None, if◌then◌else◌}
 use Rattle.std.specs.List.{list_all}
 use Rattle.std.proofs.lemmas.List.{map-append}
 use Rattle.affine_rows.specs.declared.quasi.Quasi.{Quasi}
@@ -13,15 +13,12 @@ use Rattle.kernel_grammar.specs.declared.item.Chain.{Chain}
 use Rattle.untyped.specs.declared.faults.Faults.{Faults}
 use Rattle.untyped.specs.declared.reading.Part.{Part}
 use Rattle.untyped.specs.declared.reading.Part.TheVariants as part
-use Rattle.untyped.specs.declared.reading.Reading.{Reading}
 use Rattle.untyped.specs.Readings.{Roles, is_index, untyped_of}
 use Rattle.untyped_parts.specs.declared.rows.RowReading.{RowReading}
 use Rattle.untyped_parts.specs.Rows.{row_of}
-use Rattle.kernel_names.specs.declared.limit.Limit.{Limit}
 use Rattle.kernel_names.specs.declared.limit.Limit.TheVariants as limit
 use Rattle.kernel_names.specs.declared.limit.LineFaults.{LineFaults}
-use Rattle.kernel_names.specs.Lines.{no_faults, first_faults}
-use Rattle.kernel_lines.specs.declared.conditions.Conditions.{Conditions}
+use Rattle.kernel_names.specs.Lines.{no_faults}
 use Rattle.kernel_lines.specs.Places.{limit_in, value_faults, index_faults, reading_faults, index_of, forms_of, forms_faults}
 use Rattle.kernel_lines.specs.Rows.{rows_between, rows_in, is_over}
 use Rattle.kernel_lines.specs.Conditions.{form_faults, link_of, links_of, chain_of, chains_of}

@@ -1,8 +1,7 @@
 -- What a sound expression mentions and binds may be meant.
-use Rattle.std.proofs.Common.{◌≡◌, ℕ, Bool, true, false, ◌&&◌, not, List, [], ◌∷◌, ◌++◌, length, ap, refl, sym, ◌∙◌}
-use Rattle.std.specs.Prelude.{nat_lt, flat_map, if◌then◌else◌}
+use Rattle.std.proofs.Common.{◌≡◌, ℕ, Bool, true, false, ◌&&◌, not, List, [], ◌∷◌, ◌++◌, length, refl, sym, ◌∙◌}
+use Rattle.std.specs.Prelude.{nat_lt, if◌then◌else◌}
 use Rattle.std.specs.List.{list_all, filter}
-use Rattle.std.proofs.lemmas.List.Folds.{list_all-append}
 use Rattle.affine_rows.specs.declared.quasi.Quasi.{Quasi}
 use Rattle.expr_tree.specs.Scenes.{is_among, each_var}
 use Rattle.std.proofs.lemmas.Bool.{and_from, and_parts}

@@ -1,5 +1,5 @@
 -- What the grammar gives of the lines of a file: names are identifiers, and expressions have their operands.
-use Rattle.std.specs.Prelude.{◌≡◌, ℕ, Bool, true, ◌&&◌, nat_lt, List, length}
+use Rattle.std.specs.Prelude.{◌≡◌, Bool, true, ◌&&◌, nat_lt, List, length}
 use Rattle.std.specs.List.{list_all}
 use Rattle.kernel_grammar.specs.declared.file.Entry.{Entry}
 use Rattle.kernel_grammar.specs.declared.item.Chain.{Chain}

@@ -10,7 +10,8 @@ use Rattle.kernel_files.specs.Files.{read_of, kernel_of, lines_refusal}
 use Rattle.kernel_files.specs.Reading.{front_refusal, IsSyntaxRefusal, IsFileRefusal}
 use Rattle.kernel_grammar.specs.declared.file.KernelFile.{KernelFile}
 use Rattle.kernel_grammar.specs.Files.{IsKernelFile}
-use Rattle.kernel_formed.specs.Laws.{FileIsFormed}
+use Rattle.kernel_formed.specs.Laws.{FileIsFormed, FileIsMade}
+use Rattle.kernel_kinds.specs.Laws.{IsMadeOf, TypedByTrees}
 use Rattle.kernel_ir.specs.declared.kernel.Kernel.{Kernel}
 use Rattle.kernel_ir.specs.Valid.{IsFormed}
 use Rattle.kernel_kinds.specs.Kinds.{kinds_refusal}
@@ -21,7 +22,7 @@ use Rattle.type_infer.specs.Inferred.{inferred}
 use Rattle.type_infer.specs.Typing.{IsTypable, typing_refusal}
 use Rattle.untyped_parts.specs.declared.trees.InsnTree.{InsnTree}
 use Rattle.untyped_parts.specs.declared.trees.RuleTree.{RuleTree}
-use Rattle.kernel_reader.specs.Reading.{IsSomeFile, IsThen, IsUsesRefusal, IsKindsRefusal, IsContentRefusal, IsTextRefusal, IsReadingRefusal}
+use Rattle.kernel_reader.specs.Reading.{IsSomeFile, IsThen, IsUsesRefusal, IsContentRefusal, IsTextRefusal, IsReadingRefusal}
 
 -- a refusal of the first kind
 pub first_fault : (T U : Type 0) (P Q : Option Refusal → Type 0) (fault : Fault) → RefusesAs {T = T} P (Err fault) → RefusesAs {T = U} (IsThen P Q) (Err fault)
@@ -82,13 +83,13 @@ module _ (k : ReadKernel) (rules : List RuleTree) (insns : List InsnTree) (same_
 -- a line that is refused
 pub line_fault : (T U : Type 0) (file : KernelFile) (fault : Fault) → Refuses {T = T} (lines_refusal file) (Err fault) → RefusesAs {T = U} (IsContentRefusal file) (Err fault)
 line_fault T U file OutOfMemory h = tt
-line_fault T U file (Rule r) h = subst (λ (o : Option Refusal). after o (IsKindsRefusal (read_of file)) (Some r)) (sym h) refl
+line_fault T U file (Rule r) h = subst (λ (o : Option Refusal). after o (IsUsesRefusal (read_of file)) (Some r)) (sym h) refl
 
-at_lines : (file : KernelFile) (read : ReadKernel) (r : Option Refusal) → lines_refusal file ≡ None → read ≡ read_of file → IsKindsRefusal read r → IsContentRefusal file r
-at_lines file read r none is h = subst (λ (o : Option Refusal). after o (IsKindsRefusal (read_of file)) r) (sym none) (subst (λ (k : ReadKernel). IsKindsRefusal k r) is h)
+at_lines : (file : KernelFile) (read : ReadKernel) (r : Option Refusal) → lines_refusal file ≡ None → read ≡ read_of file → IsUsesRefusal read r → IsContentRefusal file r
+at_lines file read r none is h = subst (λ (o : Option Refusal). after o (IsUsesRefusal (read_of file)) r) (sym none) (subst (λ (k : ReadKernel). IsUsesRefusal k r) is h)
 
 -- what comes behind the lines
-pub behind_lines : {T : Type 0} (file : KernelFile) (read : ReadKernel) (answer : Result T Fault) → lines_refusal file ≡ None → read ≡ read_of file → RefusesAs (IsKindsRefusal read) answer → RefusesAs (IsContentRefusal file) answer
+pub behind_lines : {T : Type 0} (file : KernelFile) (read : ReadKernel) (answer : Result T Fault) → lines_refusal file ≡ None → read ≡ read_of file → RefusesAs (IsUsesRefusal read) answer → RefusesAs (IsContentRefusal file) answer
 behind_lines file read (Ok x) none is h = at_lines file read None none is h
 behind_lines file read (Err OutOfMemory) none is h = tt
 behind_lines file read (Err (Rule r)) none is h = at_lines file read (Some r) none is h
@@ -96,12 +97,25 @@ behind_lines file read (Err (Rule r)) none is h = at_lines file read (Some r) no
 -- what is refused for its uses of rules or its kinds
 pub uses_behind_lines : (T U : Type 0) (file : KernelFile) (read : ReadKernel) (fault : Fault) → lines_refusal file ≡ None → read ≡ read_of file → RefusesAs {T = T} (IsUsesRefusal read) (Err fault)
     → RefusesAs {T = U} (IsContentRefusal file) (Err fault)
-uses_behind_lines T U file read fault none is h = behind_lines {T = U} file read (Err fault) none is (first_fault T U (IsUsesRefusal read) (λ r. r ≡ typing_refusal read.kernel) fault h)
+uses_behind_lines T U file read OutOfMemory none is h = tt
+uses_behind_lines T U file read (Rule r) none is h = at_lines file read (Some r) none is h
 
--- what the inference of kinds answers
-pub kinds_behind_lines : {T : Type 0} (file : KernelFile) (read : ReadKernel) (answer : Result T Fault) → lines_refusal file ≡ None → read ≡ read_of file → IsUsesRefusal read None → Refuses (typing_refusal read.kernel) answer
-    → RefusesAs (IsContentRefusal file) answer
-kinds_behind_lines file read answer none is uses h = behind_lines file read answer none is (behind (IsUsesRefusal read) (λ r. r ≡ typing_refusal read.kernel) answer uses (alone (typing_refusal read.kernel) answer h))
+never : (o : Option Refusal) (r : Refusal) → o ≡ None → o ≡ Some r → ⊥
+never o r none some = cc
+
+inferred_case : {T : Type 0} (file : KernelFile) (read : ReadKernel) (answer : Result T Fault) → lines_refusal file ≡ None → read ≡ read_of file → IsUsesRefusal read None → typing_refusal read.kernel ≡ None
+    → Refuses (typing_refusal read.kernel) answer → RefusesAs (IsContentRefusal file) answer
+inferred_case file read (Ok x) none is uses typed h = at_lines file read None none is uses
+inferred_case file read (Err OutOfMemory) none is uses typed h = tt
+inferred_case file read (Err (Rule r)) none is uses typed h = absurd (never (typing_refusal read.kernel) r typed h)
+
+-- where the trees are not refused for kinds, the inference of kinds does not refuse the kernel
+pub kinds_behind_lines : {T : Type 0} (file : KernelFile) (read : ReadKernel) (answer : Result T Fault) → FileIsFormed → FileIsMade → TypedByTrees → IsSomeFile file → lines_refusal file ≡ None → read ≡ read_of file
+    → IsUsesRefusal read None → Refuses (typing_refusal read.kernel) answer → RefusesAs (IsContentRefusal file) answer
+kinds_behind_lines file read answer formed made typed some none is uses h =
+    inferred_case file read answer none is uses
+    (typed read.kernel read.rules read.insns (subst (λ (k : ReadKernel). IsFormed k.kernel) (sym is) (formed some.0 file some.1 none))
+    (subst (λ (k : ReadKernel). IsMadeOf k.kernel k.rules k.insns) (sym is) (made file none)) (sym uses.1.1)) h
 
 -- ---- what is read
 

@@ -11,7 +11,6 @@ use Rattle.kernel_kinds.specs.Kinds.{kinds_refusal}
 use Rattle.kernel_kinds.specs.Refused.{IsCallsRefusal}
 use Rattle.subst_rules.specs.Refused.{after, IsExpansionRefusal}
 use Rattle.type_infer.specs.Inferred.{inferred}
-use Rattle.type_infer.specs.Typing.{typing_refusal}
 
 -- The kernel of the file of which the bytes are a text, with the kinds of its temporaries.
 abbrev pub Says : List ℕ → Kernel → Type 0
@@ -30,13 +29,9 @@ IsThen first later (Some r) = first (Some r) ⊎ (first None × later (Some r))
 abbrev pub IsUsesRefusal : ReadKernel → Option Refusal → Type 0
 IsUsesRefusal k = IsThen (IsCallsRefusal k.kernel k.rules k.insns) (IsThen (IsExpansionRefusal k.kernel) (λ r. r ≡ kinds_refusal k.kernel k.rules k.insns))
 
--- these, and the kinds in the kernel
-abbrev pub IsKindsRefusal : ReadKernel → Option Refusal → Type 0
-IsKindsRefusal k = IsThen (IsUsesRefusal k) (λ r. r ≡ typing_refusal k.kernel)
-
 -- of a file's lines, and then of what they say together
 abbrev pub IsContentRefusal : KernelFile → Option Refusal → Type 0
-IsContentRefusal file = after (lines_refusal file) (IsKindsRefusal (read_of file))
+IsContentRefusal file = after (lines_refusal file) (IsUsesRefusal (read_of file))
 
 -- a text that is no kernel file, or a file that is refused
 abbrev pub IsTextRefusal : List ℕ → Option Refusal → Type 0

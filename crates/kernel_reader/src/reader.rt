@@ -8,9 +8,10 @@ ghost use Rattle.subst_rules.specs.Refused.{RefusesAs};
 ghost use Rattle.type_infer.specs.Inferred.{inferred};
 
 use kernel_files::{ReadKernel, read_entries, read_file};
-use kernel_formed::laws::file_is_formed;
+use kernel_formed::laws::{file_is_formed, file_is_made};
 use kernel_grammar::KernelFile;
 use kernel_ir::{Fault, Kernel};
+use kernel_kinds::laws::typed_by_trees;
 use kernel_kinds::{check_calls, check_kinds};
 use std::alloc::Global;
 use subst_rules::expand;
@@ -45,6 +46,8 @@ fn kernel_in(alloc: Global, file: &KernelFile) -> Result<Kernel, Fault>
         Ok(read) => match check_uses(alloc, &read) {
             Ok(()) => {
                 let _formed = file_is_formed();
+                let _made = file_is_made();
+                let _typed = typed_by_trees();
                 infer(alloc, read.kernel)
             }
             Err(fault) => Err(fault),

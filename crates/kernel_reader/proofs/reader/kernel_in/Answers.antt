@@ -11,7 +11,7 @@ returns-in-Ok-check_uses-clause-kernel c = said c.args.file.now c.in-Ok.read c.i
 
 pub returns-in-Ok-check_uses-clause-refused : goal.returns-in-Ok-check_uses-clause-refused
 returns-in-Ok-check_uses-clause-refused c =
-    kinds_behind_lines c.args.file.now c.in-Ok.read c.infer.result c.in-Ok.ensures.refused c.in-Ok.ensures.kernel c.in-Ok-check_uses.ensures.refused c.infer.ensures.refused
+    kinds_behind_lines c.args.file.now c.in-Ok.read c.infer.result c.file_is_formed-formed.ensures c.file_is_made-made.ensures c.typed_by_trees-typed.ensures c.requires c.in-Ok.ensures.refused c.in-Ok.ensures.kernel c.in-Ok-check_uses.ensures.refused c.infer.ensures.refused
 
 pub returns-in-Err-check_uses-clause-refused : goal.returns-in-Err-check_uses-clause-refused
 returns-in-Err-check_uses-clause-refused c =
