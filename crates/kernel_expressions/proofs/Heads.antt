@@ -62,7 +62,7 @@ closes_head S k o last make spells means = record {
       (λ s. means h.tree s ∙ ap (λ xs. xs ++ last ∷ []) (h.means s));
 }
 
-fold_head : (S : Type 0) (is_sum : Bool) (inames : List (List ℕ)) (o : List Lexical) → IsOver S inames o → Closes S (step.Fold (folding_of is_sum) inames ∷ []) [] (fold_text is_sum ∷ mark "(" ∷ (o ++ mark "," ∷ []))
+pub fold_head : (S : Type 0) (is_sum : Bool) (inames : List (List ℕ)) (o : List Lexical) → IsOver S inames o → Closes S (step.Fold (folding_of is_sum) inames ∷ []) [] (fold_text is_sum ∷ mark "(" ∷ (o ++ mark "," ∷ []))
 fold_head S true inames o h = closes_head S (key "sum") o (step.Fold folding.Sum inames) (λ a. sum h.tree a) (λ a. ap (λ xs. key "sum" ∷ of_two xs (or_text a)) h.spelled)
     (λ a s. ap (λ (ws : List (List ℕ)). or_steps a ++ step.Fold folding.Sum ws ∷ []) (h.means s))
 fold_head S false inames o h = closes_head S (key "product") o (step.Fold folding.Product inames) (λ a. product h.tree a) (λ a. ap (λ xs. key "product" ∷ of_two xs (or_text a)) h.spelled)
@@ -80,7 +80,7 @@ part_fold S is_sum inames all at a b c n e p h f q = token_and all at c (fold_te
 in_group : Name → Or
 in_group name = or_of (and_of (not_of (cmp_of (bor_of (bxor_of (band_of (shift_of (sum_of (prod_of (unary_of (grouped (or_of (and_of (not_of (cmp_of (bor_of (bxor_of (band_of (shift_of (sum_of (prod_of (unary_of (named name)))))))))))))))))))))))
 
-extreme_head : (S : Type 0) (which : Extreme) (inames : List (List ℕ)) (list : Name × List Name) (u : List Lexical) → inames_text list ≡ u → (S → words_of (list.0 ∷ list.1) ≡ inames) → Closes S (step.Fold (folding.Extreme which) inames ∷ []) [] (extreme_text which ∷ mark "(" ∷ u)
+pub extreme_head : (S : Type 0) (which : Extreme) (inames : List (List ℕ)) (list : Name × List Name) (u : List Lexical) → inames_text list ≡ u → (S → words_of (list.0 ∷ list.1) ≡ inames) → Closes S (step.Fold (folding.Extreme which) inames ∷ []) [] (extreme_text which ∷ mark "(" ∷ u)
 unfolding in_group
 extreme_head S which inames (name, []) u e means = subst (λ (xs : List Lexical). Closes S (step.Fold (folding.Extreme which) inames ∷ []) [] (extreme_text which ∷ mark "(" ∷ xs)) e
     (closes_head S (extreme_text which) (in_parentheses (name_text name)) (step.Fold (folding.Extreme which) inames) (λ a. extreme which (in_group name) a) (λ a. refl)

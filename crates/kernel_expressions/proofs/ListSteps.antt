@@ -98,11 +98,11 @@ pub inames_read : (S : Type 0) (names : List (List ℕ)) (all : List Lexical) (a
 inames_read S list all at c d h g q = ended all at c d (mark ",") (InParens S list) (AreInames S list) h g q (λ t i. record { tree = (i.first, i.more); spelled = ap (λ xs. xs ++ mark "," ∷ []) i.spelled; means = i.means })
 
 -- sums from a list of them
-sums_of : Sum → List Sum → Sums
+pub sums_of : Sum → List Sum → Sums
 sums_of a [] = one_sum a
 sums_of a (b ∷ more) = first a (sums_of b more)
 
-sums_spelled : (a : Sum) (more : List Sum) → sums_text (sums_of a more) ≡ listed (mark ",") (map sum_text (a ∷ more))
+pub sums_spelled : (a : Sum) (more : List Sum) → sums_text (sums_of a more) ≡ listed (mark ",") (map sum_text (a ∷ more))
 unfolding sums_of
 sums_spelled a [] = refl
 sums_spelled a (b ∷ more) = ap (λ xs. sum_text a ++ mark "," ∷ xs) (sums_spelled b more)

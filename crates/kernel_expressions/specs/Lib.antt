@@ -7,3 +7,7 @@ pub mod Frames
 pub mod Turns
 pub mod Ended
 pub mod FirstPlaces
+pub mod Tails
+pub mod Settled
+pub mod Leads
+pub mod Follows

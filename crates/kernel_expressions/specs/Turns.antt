@@ -81,9 +81,13 @@ pub record InParens (S : Type 0) (list : List (List ℕ)) (t : List Lexical) : T
   pub spelled : in_parentheses (names_text (first ∷ more)) ≡ t
   pub means : S → words_of (first ∷ more) ≡ list
 
+-- names in parentheses
+abbrev pub parens_text : Name × List Name → List Lexical
+parens_text list = in_parentheses (names_text (list.0 ∷ list.1))
+
 -- names in parentheses and a comma
 abbrev pub inames_text : Name × List Name → List Lexical
-inames_text list = in_parentheses (names_text (list.0 ∷ list.1)) ++ mark "," ∷ []
+inames_text list = parens_text list ++ mark "," ∷ []
 
 -- The text is that of inames in parentheses and a comma.
 abbrev pub AreInames : (S : Type 0) → List (List ℕ) → List Lexical → Type 0

@@ -1,11 +1,15 @@
 //! How tightly operators bind: 1 is loosest, 11 is the level of signs before operands and of what needs no operator.
-ghost use Rattle.std.specs.Prelude.{◌≡◌, IfSome};
+ghost use Rattle.std.specs.Prelude.{◌≡◌, Bool, MatchOption};
 ghost use Rattle.kernel_grammar.specs.Lexicals.{sign as sign_token, word};
+ghost use Rattle.kernel_grammar.specs.Spelling.{rel_text};
+ghost use Rattle.kernel_grammar.specs.Trees.{Rel};
 ghost use Rattle.kernel_expressions.specs.Frames.{inner_level, own_level};
 ghost use Rattle.kernel_expressions.specs.Keys.{key_text};
 ghost use Rattle.kernel_expressions.specs.Levels.{first_level, level, prefix_level, IsInfix, IsRelation};
+ghost use Rattle.kernel_expressions.specs.Settled.{IsNoInfix};
 ghost use Rattle.kernel_expressions.specs.Signs.{sign_text};
 ghost use Rattle.kernel_expressions.specs.Texts.{text_of};
+ghost use Rattle.kernel_expressions.specs.Turns.{shift_text};
 
 use crate::frame::Frame;
 use crate::key::Key;
@@ -80,7 +84,7 @@ pub fn own_level(frame: &Frame) -> u8
 
 /// The comparison that a sign writes.
 pub fn relation_of(sign: Sign) -> Option<Relation>
-    ensures { IfSome result (λ relation. IsRelation relation (sign_token (sign_text sign))) }
+    ensures { MatchOption result ((rel : Rel) → rel_text rel ≡ sign_token (sign_text sign) → ⊥) (λ relation. IsRelation relation (sign_token (sign_text sign))) }
 {
     match sign {
         Sign::LessEqual => Some(Relation::LessEqual),
@@ -93,7 +97,7 @@ pub fn relation_of(sign: Sign) -> Option<Relation>
 }
 
 fn infix_sign(sign: Sign) -> Option<Infix>
-    ensures { IfSome result (λ operator. IsInfix operator (sign_token (sign_text sign))) }
+    ensures { MatchOption result (IsNoInfix (sign_token (sign_text sign))) (λ operator. IsInfix operator (sign_token (sign_text sign))) }
 {
     match sign {
         Sign::NotEqual => Some(Infix::NotEqual),
@@ -110,7 +114,7 @@ fn infix_sign(sign: Sign) -> Option<Infix>
 }
 
 fn infix_key(key: Key) -> Option<Infix>
-    ensures { IfSome result (λ operator. IsInfix operator (word (key_text key))) }
+    ensures { MatchOption result (IsNoInfix (word (key_text key))) (λ operator. IsInfix operator (word (key_text key))) }
 {
     match key {
         Key::Or => Some(Infix::Or),
@@ -121,11 +125,31 @@ fn infix_key(key: Key) -> Option<Infix>
 
 /// The operator that a token writes between operands.
 pub fn infix_of(lexeme: Lexeme) -> Option<Infix>
-    ensures { IfSome result (λ operator. IsInfix operator (text_of lexeme.entry)) }
+    ensures { MatchOption result (IsNoInfix (text_of lexeme.entry)) (λ operator. IsInfix operator (text_of lexeme.entry)) }
 {
     match lexeme {
         Lexeme::Sign(sign) => infix_sign(sign),
         Lexeme::Key(key) => infix_key(key),
+        _ => None,
+    }
+}
+
+fn shift_sign(sign: Sign) -> Option<bool>
+    ensures { MatchOption result ((is_left : Bool) → sign_token (sign_text sign) ≡ shift_text is_left → ⊥) (λ is_left. sign_token (sign_text sign) ≡ shift_text is_left) }
+{
+    match sign {
+        Sign::ShiftLeft => Some(true),
+        Sign::ShiftRight => Some(false),
+        _ => None,
+    }
+}
+
+/// Whether a token shifts to the left, if it is the sign of a shift.
+pub fn shift_of(lexeme: Lexeme) -> Option<bool>
+    ensures { MatchOption result ((is_left : Bool) → text_of lexeme.entry ≡ shift_text is_left → ⊥) (λ is_left. text_of lexeme.entry ≡ shift_text is_left) }
+{
+    match lexeme {
+        Lexeme::Sign(sign) => shift_sign(sign),
         _ => None,
     }
 }

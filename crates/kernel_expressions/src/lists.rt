@@ -1,10 +1,12 @@
 //! Lists of expressions and of numbers.
-ghost use Rattle.std.specs.Prelude.{◌≤◌, length, map, IfOk};
+ghost use Rattle.std.specs.Prelude.{◌≤◌, codes, length, map, not, IfOk};
+ghost use Rattle.std.specs.Result.{IfErr};
 ghost use Rattle.kernel_grammar.specs.Lexicals.{number_in};
 ghost use Rattle.kernel_grammar.specs.Lines.{numbers_text};
 ghost use Rattle.kernel_grammar.specs.Spelling.{sums_text};
 ghost use Rattle.kernel_grammar.specs.Steps.{sums_steps};
 ghost use Rattle.kernel_expressions.specs.Reads.{bracketed, IsItem, Reads};
+ghost use Rattle.kernel_expressions.specs.Settled.{AnyRest, Behind, Ends, Halts, Spells, Stops, ends_sums, is_mark};
 ghost use Rattle.kernel_expressions.specs.Texts.{texts, IsFit};
 
 use crate::ahead::{behind_sign, digits, sign};
@@ -23,7 +25,9 @@ pub fn sums(
     lexemes: &[Lexeme],
     at: usize,
 ) -> Result<(Listed<Listed<Step>>, usize), Stop>
-    ensures { IfOk result (λ read. Reads (texts lexemes.now) at read.1 (IsItem (IsFit (texts lexemes.now)) sums_text sums_steps read.0)) }
+    ensures read { IfOk result (λ read. Reads (texts lexemes.now) at read.1 (IsItem (IsFit (texts lexemes.now)) sums_text sums_steps read.0)) }
+    ensures ends { IfOk result (λ read. Ends (texts lexemes.now) (Spells sums_text) (Behind ends_sums) at read.1) }
+    ensures stops { at ≤ length (texts lexemes.now) → IfErr result (Halts (Stops (texts lexemes.now) (Spells sums_text) (Behind ends_sums) at)) }
 {
     let (first, mut at) = sum(alloc, lexemes, at)?;
     let mut sums = Listed::of_one(alloc, first)?;
@@ -41,7 +45,9 @@ pub fn places(
     lexemes: &[Lexeme],
     at: usize,
 ) -> Result<(Listed<Listed<Step>>, usize), Stop>
-    ensures { IfOk result (λ read. Reads (texts lexemes.now) at read.1 (IsItem (IsFit (texts lexemes.now)) bracketed sums_steps read.0)) }
+    ensures read { IfOk result (λ read. Reads (texts lexemes.now) at read.1 (IsItem (IsFit (texts lexemes.now)) bracketed sums_steps read.0)) }
+    ensures ends { IfOk result (λ read. Ends (texts lexemes.now) (Spells bracketed) AnyRest at read.1) }
+    ensures stops { at ≤ length (texts lexemes.now) → IfErr result (Halts (Stops (texts lexemes.now) (Spells bracketed) AnyRest at)) }
 {
     let at = sign(lexemes, at, Sign::OpenBracket)?;
     let (sums, at) = sums(alloc, lexemes, at)?;
@@ -55,7 +61,9 @@ pub fn numbers(
     at: usize,
 ) -> Result<(Listed<Option<u64>>, usize), Stop>
     requires { at ≤ length (texts lexemes.now) }
-    ensures { IfOk result (λ read. Reads (texts lexemes.now) at read.1 (IsItem (IsFit (texts lexemes.now)) numbers_text (map number_in) read.0)) }
+    ensures read { IfOk result (λ read. Reads (texts lexemes.now) at read.1 (IsItem (IsFit (texts lexemes.now)) numbers_text (map number_in) read.0)) }
+    ensures ends { IfOk result (λ read. Ends (texts lexemes.now) (Spells numbers_text) (Behind (λ x. not (is_mark (codes "[") x))) at read.1) }
+    ensures stops { at ≤ length (texts lexemes.now) → IfErr result (Halts (Stops (texts lexemes.now) (Spells numbers_text) (Behind (λ x. not (is_mark (codes "[") x))) at)) }
 {
     let Some(at) = behind_sign(lexemes, at, Sign::OpenBracket) else {
         return Ok((Listed::new(alloc), at));

@@ -1,12 +1,18 @@
 //! What stands where an operand is wanted.
-ghost use Rattle.std.specs.Prelude.{◌≡◌, IfOk};
+ghost use Rattle.std.specs.Prelude.{◌≡◌, ◌≤◌, [], length, IfOk, ◌+◌, ℕ};
+ghost use Rattle.std.specs.Result.{IfErr};
 ghost use Rattle.kernel_grammar.specs.Lexicals.{key, sign as sign_token, word};
-ghost use Rattle.kernel_grammar.specs.Spelling.{extreme_text};
+ghost use Rattle.kernel_grammar.specs.Spelling.{extreme_text, over_text};
+ghost use Rattle.std.specs.Bool.{MatchBool};
+ghost use Rattle.kernel_expressions.specs.Follows.{BeginsInames, Goes, GoesShaped, Halted, HaltsShaped, NamedLeft, Never, OperandLeft, Shaped, SignedLeft, start};
 ghost use Rattle.kernel_expressions.specs.Keys.{key_text};
+ghost use Rattle.kernel_expressions.specs.Leads.{Leads};
 ghost use Rattle.kernel_expressions.specs.Reads.{Next, Reads};
+ghost use Rattle.kernel_expressions.specs.Settled.{AnyRest, Ends, Halts, Spells, Stops};
 ghost use Rattle.kernel_expressions.specs.Signs.{sign_text};
+ghost use Rattle.kernel_expressions.specs.Tails.{IsText};
 ghost use Rattle.kernel_expressions.specs.Texts.{texts, IsFit};
-ghost use Rattle.kernel_expressions.specs.Turns.{Moves, MovesAt, OpensPart, Passes, AreInames, InParens, IsOver, fold_text, folding_of};
+ghost use Rattle.kernel_expressions.specs.Turns.{Moves, MovesAt, OpensPart, Passes, AreInames, InParens, IsOver, fold_text, folding_of, inames_text, parens_text};
 
 use crate::ahead::{behind_sign, digits, kind, lexeme_at, name, name_at, names, sign};
 use crate::frame::{Bracket, Frame};
@@ -22,7 +28,8 @@ use std::alloc::Global;
 
 /// Opens a part that is read up to a place.
 pub fn opened(part: &mut Partial, frame: Frame, at: usize) -> Result<Turn, Stop>
-    ensures { IfOk result (λ turn. OpensPart part.old frame at part.new turn) }
+    ensures opens { IfOk result (λ turn. OpensPart part.old frame at part.new turn) }
+    ensures none { IfErr result (Halts (λ last. ⊥)) }
 {
     part.begin(frame)?;
     Ok(Turn::Operand { at })
@@ -32,6 +39,9 @@ pub fn opened(part: &mut Partial, frame: Frame, at: usize) -> Result<Turn, Stop>
 fn number(alloc: Global, lexemes: &[Lexeme], at: usize, part: &mut Partial) -> Result<Turn, Stop>
     ensures passes { IfOk result (Passes (texts lexemes.now) at) }
     ensures moves { IfOk result (λ turn. Moves lexemes.now part.old at part.new turn) }
+    ensures begun { IfErr result (Halts (λ last. last ≡ at)) }
+    ensures goes { IfOk result (λ turn. GoesShaped lexemes.now 1 part.old at part.new turn) }
+    ensures none { IfErr result (Halts (HaltsShaped lexemes.now 1 part.old at)) }
 {
     let (digits, at) = digits(lexemes, at)?;
     part.step(Step::Number(number_of(digits)))?;
@@ -50,6 +60,9 @@ fn number(alloc: Global, lexemes: &[Lexeme], at: usize, part: &mut Partial) -> R
 fn named(alloc: Global, lexemes: &[Lexeme], at: usize, part: &mut Partial) -> Result<Turn, Stop>
     ensures passes { IfOk result (Passes (texts lexemes.now) at) }
     ensures moves { IfOk result (λ turn. Moves lexemes.now part.old at part.new turn) }
+    ensures begun { IfErr result (Halts (λ last. last ≡ at)) }
+    ensures goes { IfOk result (λ turn. (least : ℕ) → Goes (texts lexemes.now) least at (NamedLeft (texts lexemes.now) least part.old.frames at) part.new.frames turn) }
+    ensures none { IfErr result (Halts (λ last. (least : ℕ) → Halted (texts lexemes.now) least at (NamedLeft (texts lexemes.now) least part.old.frames at) last)) }
 {
     let (name, at) = name(alloc, lexemes, at)?;
     if let Some(at) = behind_sign(lexemes, at, Sign::OpenBracket) {
@@ -85,6 +98,9 @@ fn signed(lexemes: &[Lexeme], at: usize, sign: Sign, part: &mut Partial) -> Resu
     requires { Next (texts lexemes.now) at (sign_token (sign_text sign)) }
     ensures passes { IfOk result (Passes (texts lexemes.now) at) }
     ensures moves { IfOk result (λ turn. Moves lexemes.now part.old at part.new turn) }
+    ensures begun { IfErr result (Halts (λ last. last ≡ at)) }
+    ensures goes { IfOk result (λ turn. (least : ℕ) → Goes (texts lexemes.now) least at (SignedLeft (start (sign_token (sign_text sign))) (texts lexemes.now) least part.old.frames at) part.new.frames turn) }
+    ensures none { IfErr result (Halts (λ last. (least : ℕ) → Halted (texts lexemes.now) least at (SignedLeft (start (sign_token (sign_text sign))) (texts lexemes.now) least part.old.frames at) last)) }
 {
     let _ = lexemes;
     match sign {
@@ -101,7 +117,10 @@ fn in_parentheses(
     lexemes: &[Lexeme],
     at: usize,
 ) -> Result<(Listed<Name>, usize), Stop>
-    ensures { IfOk result (λ read. Reads (texts lexemes.now) at read.1 (InParens (IsFit (texts lexemes.now)) read.0)) }
+    ensures read { IfOk result (λ read. Reads (texts lexemes.now) at read.1 (InParens (IsFit (texts lexemes.now)) read.0)) }
+    ensures ends { IfOk result (λ read. Ends (texts lexemes.now) (Spells parens_text) AnyRest at read.1) }
+    ensures stops { at ≤ length (texts lexemes.now) → IfErr result (Halts (Stops (texts lexemes.now) (Spells parens_text) AnyRest at)) }
+    ensures beyond { BeginsInames (texts lexemes.now) at → IfErr result (Halts (λ last. at + 2 ≤ last)) }
 {
     let at = sign(lexemes, at, Sign::OpenParenthesis)?;
     let (names, at) = names(alloc, lexemes, at, Sign::Comma)?;
@@ -110,7 +129,9 @@ fn in_parentheses(
 
 /// Reads a name, or names in parentheses.
 fn over(alloc: Global, lexemes: &[Lexeme], at: usize) -> Result<(Listed<Name>, usize), Stop>
-    ensures { IfOk result (λ read. Reads (texts lexemes.now) at read.1 (IsOver (IsFit (texts lexemes.now)) read.0)) }
+    ensures read { IfOk result (λ read. Reads (texts lexemes.now) at read.1 (IsOver (IsFit (texts lexemes.now)) read.0)) }
+    ensures ends { IfOk result (λ read. Ends (texts lexemes.now) (Spells over_text) AnyRest at read.1) }
+    ensures stops { at ≤ length (texts lexemes.now) → IfErr result (Halts (Stops (texts lexemes.now) (Spells over_text) AnyRest at)) }
 {
     if behind_sign(lexemes, at, Sign::OpenParenthesis).is_some() {
         return in_parentheses(alloc, lexemes, at);
@@ -141,6 +162,9 @@ fn fold(
     requires { Next (texts lexemes.now) at (fold_text is_sum) }
     ensures passes { IfOk result (Passes (texts lexemes.now) at) }
     ensures moves { IfOk result (λ turn. Moves lexemes.now part.old at part.new turn) }
+    ensures begun { IfErr result (Halts (Leads (texts lexemes.now) (IsText 11) at)) }
+    ensures goes { IfOk result (λ turn. GoesShaped lexemes.now (start (fold_text is_sum)) part.old at part.new turn) }
+    ensures none { IfErr result (Halts (HaltsShaped lexemes.now (start (fold_text is_sum)) part.old at)) }
 {
     let at = sign(lexemes, at + 1, Sign::OpenParenthesis)?;
     let (inames, at) = over(alloc, lexemes, at)?;
@@ -150,19 +174,27 @@ fn fold(
 }
 
 /// Whether two names or more begin there, in parentheses.
-fn are_inames(lexemes: &[Lexeme], at: usize) -> bool {
-    match behind_sign(lexemes, at, Sign::OpenParenthesis) {
-        Some(at) => match name_at(lexemes, at) {
-            Some(_) => behind_sign(lexemes, at + 1, Sign::Comma).is_some(),
-            None => false,
-        },
-        None => false,
-    }
+fn are_inames(lexemes: &[Lexeme], at: usize) -> bool
+    ensures { MatchBool result (BeginsInames (texts lexemes.now) at) (BeginsInames (texts lexemes.now) at → ⊥) }
+{
+    let Some(at_first) = behind_sign(lexemes, at, Sign::OpenParenthesis) else {
+        return false;
+    };
+    let Some(_word) = name_at(lexemes, at_first) else {
+        return false;
+    };
+    let Some(_next) = behind_sign(lexemes, at_first + 1, Sign::Comma) else {
+        return false;
+    };
+    true
 }
 
 /// Reads names in parentheses and a comma.
 fn inames(alloc: Global, lexemes: &[Lexeme], at: usize) -> Result<(Listed<Name>, usize), Stop>
-    ensures { IfOk result (λ read. Reads (texts lexemes.now) at read.1 (AreInames (IsFit (texts lexemes.now)) read.0)) }
+    ensures read { IfOk result (λ read. Reads (texts lexemes.now) at read.1 (AreInames (IsFit (texts lexemes.now)) read.0)) }
+    ensures ends { IfOk result (λ read. Ends (texts lexemes.now) (Spells inames_text) AnyRest at read.1) }
+    ensures stops { at ≤ length (texts lexemes.now) → IfErr result (Halts (Stops (texts lexemes.now) (Spells inames_text) AnyRest at)) }
+    ensures beyond { BeginsInames (texts lexemes.now) at → IfErr result (Halts (λ last. at + 2 ≤ last)) }
 {
     let (names, at) = in_parentheses(alloc, lexemes, at)?;
     Ok((names, sign(lexemes, at, Sign::Comma)?))
@@ -179,6 +211,9 @@ fn extreme(
     requires { Next (texts lexemes.now) at (extreme_text extreme) }
     ensures passes { IfOk result (Passes (texts lexemes.now) at) }
     ensures moves { IfOk result (λ turn. Moves lexemes.now part.old at part.new turn) }
+    ensures begun { IfErr result (Halts (Leads (texts lexemes.now) (IsText 11) at)) }
+    ensures goes { IfOk result (λ turn. GoesShaped lexemes.now (start (extreme_text extreme)) part.old at part.new turn) }
+    ensures none { IfErr result (Halts (HaltsShaped lexemes.now (start (extreme_text extreme)) part.old at)) }
 {
     let start = sign(lexemes, at + 1, Sign::OpenParenthesis)?;
     if !are_inames(lexemes, start) {
@@ -194,6 +229,9 @@ fn cast(lexemes: &[Lexeme], at: usize, part: &mut Partial) -> Result<Turn, Stop>
     requires { Next (texts lexemes.now) at (key "cast") }
     ensures passes { IfOk result (Passes (texts lexemes.now) at) }
     ensures moves { IfOk result (λ turn. Moves lexemes.now part.old at part.new turn) }
+    ensures begun { IfErr result (Halts (Leads (texts lexemes.now) (IsText 11) at)) }
+    ensures goes { IfOk result (λ turn. GoesShaped lexemes.now 11 part.old at part.new turn) }
+    ensures none { IfErr result (Halts (HaltsShaped lexemes.now 11 part.old at)) }
 {
     let at = sign(lexemes, at + 1, Sign::OpenParenthesis)?;
     let (kind, at) = kind(lexemes, at)?;
@@ -206,6 +244,9 @@ fn choice(lexemes: &[Lexeme], at: usize, part: &mut Partial) -> Result<Turn, Sto
     requires { Next (texts lexemes.now) at (key "if") }
     ensures passes { IfOk result (Passes (texts lexemes.now) at) }
     ensures moves { IfOk result (λ turn. Moves lexemes.now part.old at part.new turn) }
+    ensures begun { IfErr result (Halts (Leads (texts lexemes.now) (IsText 11) at)) }
+    ensures goes { IfOk result (λ turn. GoesShaped lexemes.now 12 part.old at part.new turn) }
+    ensures none { IfErr result (Halts (HaltsShaped lexemes.now 12 part.old at)) }
 {
     let at = sign(lexemes, at + 1, Sign::OpenParenthesis)?;
     opened(part, Frame::Test, at)
@@ -216,6 +257,9 @@ fn not(lexemes: &[Lexeme], at: usize, least: u8, part: &mut Partial) -> Result<T
     requires { Next (texts lexemes.now) at (key "not") }
     ensures passes { IfOk result (Passes (texts lexemes.now) at) }
     ensures moves { IfOk result (λ turn. MovesAt lexemes.now least part.old at part.new turn) }
+    ensures begun { IfErr result (Halts (λ last. last ≡ at)) }
+    ensures goes { IfOk result (λ turn. Goes (texts lexemes.now) least at (Shaped least part.old.frames 6) part.new.frames turn) }
+    ensures none { IfErr result (Halts (Halted (texts lexemes.now) least at (Shaped least part.old.frames 6))) }
 {
     let _ = lexemes;
     if part.frames.wanted_level(least) > 3 {
@@ -236,6 +280,9 @@ fn keyed(
     requires { Next (texts lexemes.now) at (word (key_text key)) }
     ensures passes { IfOk result (Passes (texts lexemes.now) at) }
     ensures moves { IfOk result (λ turn. MovesAt lexemes.now least part.old at part.new turn) }
+    ensures begun { IfErr result (Halts (Leads (texts lexemes.now) (IsText 11) at)) }
+    ensures goes { IfOk result (λ turn. Goes (texts lexemes.now) least at (Shaped least part.old.frames (start (word (key_text key)))) part.new.frames turn) }
+    ensures none { IfErr result (Halts (Halted (texts lexemes.now) least at (Shaped least part.old.frames (start (word (key_text key)))))) }
 {
     match key {
         Key::Not => not(lexemes, at, least, part),
@@ -258,12 +305,19 @@ pub fn operand(
 ) -> Result<Turn, Stop>
     ensures passes { IfOk result (Passes (texts lexemes.now) at) }
     ensures moves { IfOk result (λ turn. MovesAt lexemes.now least part.old at part.new turn) }
+    ensures begun { at ≤ length (texts lexemes.now) → IfErr result (Halts (Leads (texts lexemes.now) (IsText 11) at)) }
+    ensures goes { IfOk result (λ turn. Goes (texts lexemes.now) least at (OperandLeft (texts lexemes.now) least part.old.frames at) part.new.frames turn) }
+    ensures none { IfErr result (Halts (Halted (texts lexemes.now) least at (OperandLeft (texts lexemes.now) least part.old.frames at))) }
 {
-    match lexeme_at(lexemes, at) {
-        Some(Lexeme::Number(_)) => number(alloc, lexemes, at, part),
-        Some(Lexeme::Name(_)) => named(alloc, lexemes, at, part),
-        Some(Lexeme::Sign(sign)) => signed(lexemes, at, sign, part),
-        Some(Lexeme::Key(key)) => keyed(alloc, lexemes, at, key, least, part),
-        _ => Err(Stop::Refused { at }),
+    let Some(lexeme) = lexeme_at(lexemes, at) else {
+        return Err(Stop::Refused { at });
+    };
+    match lexeme {
+        Lexeme::Number(_) => number(alloc, lexemes, at, part),
+        Lexeme::Name(_) => named(alloc, lexemes, at, part),
+        Lexeme::Sign(sign) => signed(lexemes, at, sign, part),
+        Lexeme::Key(key) => keyed(alloc, lexemes, at, key, least, part),
+        Lexeme::Kind(_) => Err(Stop::Refused { at }),
+        Lexeme::LineEnd => Err(Stop::Refused { at }),
     }
 }

@@ -1,9 +1,14 @@
 //! What stands behind an operand.
 ghost use Rattle.std.specs.Prelude.{◌≡◌, IfOk, ℕ};
+ghost use Rattle.std.specs.Result.{IfErr};
 ghost use Rattle.kernel_grammar.specs.Lexicals.{Lexical};
+ghost use Rattle.kernel_expressions.specs.Follows.{Goes, GoesOut, Halted, HaltsOut, Stopped};
 ghost use Rattle.kernel_expressions.specs.Frames.{own_level};
+ghost use Rattle.kernel_expressions.specs.Leads.{LeadsBehind};
 ghost use Rattle.kernel_expressions.specs.Levels.{IsInfix};
 ghost use Rattle.kernel_expressions.specs.Reads.{Next};
+ghost use Rattle.kernel_expressions.specs.Settled.{Halts};
+ghost use Rattle.kernel_expressions.specs.Tails.{ClosesAll};
 ghost use Rattle.kernel_expressions.specs.Texts.{texts};
 ghost use Rattle.kernel_expressions.specs.Turns.{MovesBehind, MovesOut, Passes, shift_step, shift_text};
 ghost use Rattle.kernel_expressions.specs.declared.frame.Frame.TheVariants.{Body, First, Group, Places, Test, Then};
@@ -11,7 +16,7 @@ ghost use Rattle.kernel_expressions.specs.declared.frame.Frame.TheVariants.{Body
 use crate::ahead::{behind_sign, digits, lexeme_at, sign};
 use crate::first_place::{FirstPlace, first_place};
 use crate::frame::{Bracket, Frame};
-use crate::levels::{first_level, infix_of, level};
+use crate::levels::{first_level, infix_of, level, shift_of};
 use crate::lexeme::Lexeme;
 use crate::lexemes::number_of;
 use crate::operand::opened;
@@ -34,6 +39,9 @@ fn place(
 ) -> Result<Turn, Stop>
     ensures passes { IfOk result (Passes (texts lexemes.now) at) }
     ensures moves { IfOk result (λ turn. MovesOut lexemes.now (Places name bracket before) part.old at part.new turn) }
+    ensures begun { IfErr result (Halts (λ last. last ≡ at)) }
+    ensures goes { IfOk result (λ turn. GoesOut lexemes.now (Places name bracket before) part.old at part.new turn) }
+    ensures none { IfErr result (Halts (HaltsOut lexemes.now (Places name bracket before) part.old at)) }
 {
     let count = before.saturating_add(1);
     if let Some(at) = behind_sign(lexemes, at, Sign::Comma) {
@@ -64,6 +72,9 @@ fn place(
 fn group(lexemes: &[Lexeme], at: usize, part: &mut Partial) -> Result<Turn, Stop>
     ensures passes { IfOk result (Passes (texts lexemes.now) at) }
     ensures moves { IfOk result (λ turn. MovesOut lexemes.now Group part.old at part.new turn) }
+    ensures begun { IfErr result (Halts (λ last. last ≡ at)) }
+    ensures goes { IfOk result (λ turn. GoesOut lexemes.now Group part.old at part.new turn) }
+    ensures none { IfErr result (Halts (HaltsOut lexemes.now Group part.old at)) }
 {
     let _ = &part.frames;
     let at = sign(lexemes, at, Sign::CloseParenthesis)?;
@@ -74,6 +85,9 @@ fn group(lexemes: &[Lexeme], at: usize, part: &mut Partial) -> Result<Turn, Stop
 fn body(lexemes: &[Lexeme], at: usize, step: Step, part: &mut Partial) -> Result<Turn, Stop>
     ensures passes { IfOk result (Passes (texts lexemes.now) at) }
     ensures moves { IfOk result (λ turn. MovesOut lexemes.now (Body step) part.old at part.new turn) }
+    ensures begun { IfErr result (Halts (λ last. last ≡ at)) }
+    ensures goes { IfOk result (λ turn. GoesOut lexemes.now (Body step) part.old at part.new turn) }
+    ensures none { IfErr result (Halts (HaltsOut lexemes.now (Body step) part.old at)) }
 {
     let at = sign(lexemes, at, Sign::CloseParenthesis)?;
     part.step(step)?;
@@ -84,6 +98,9 @@ fn body(lexemes: &[Lexeme], at: usize, step: Step, part: &mut Partial) -> Result
 fn test(lexemes: &[Lexeme], at: usize, part: &mut Partial) -> Result<Turn, Stop>
     ensures passes { IfOk result (Passes (texts lexemes.now) at) }
     ensures moves { IfOk result (λ turn. MovesOut lexemes.now Test part.old at part.new turn) }
+    ensures begun { IfErr result (Halts (λ last. last ≡ at)) }
+    ensures goes { IfOk result (λ turn. GoesOut lexemes.now Test part.old at part.new turn) }
+    ensures none { IfErr result (Halts (HaltsOut lexemes.now Test part.old at)) }
 {
     let at = sign(lexemes, at, Sign::Comma)?;
     opened(part, Frame::Then, at)
@@ -93,6 +110,9 @@ fn test(lexemes: &[Lexeme], at: usize, part: &mut Partial) -> Result<Turn, Stop>
 fn then(lexemes: &[Lexeme], at: usize, part: &mut Partial) -> Result<Turn, Stop>
     ensures passes { IfOk result (Passes (texts lexemes.now) at) }
     ensures moves { IfOk result (λ turn. MovesOut lexemes.now Then part.old at part.new turn) }
+    ensures begun { IfErr result (Halts (λ last. last ≡ at)) }
+    ensures goes { IfOk result (λ turn. GoesOut lexemes.now Then part.old at part.new turn) }
+    ensures none { IfErr result (Halts (HaltsOut lexemes.now Then part.old at)) }
 {
     let at = sign(lexemes, at, Sign::Comma)?;
     opened(part, Frame::Body(Step::Choose), at)
@@ -109,6 +129,9 @@ fn first(
 ) -> Result<Turn, Stop>
     ensures passes { IfOk result (Passes (texts lexemes.now) at) }
     ensures moves { IfOk result (λ turn. MovesOut lexemes.now (First extreme start) part.old at part.new turn) }
+    ensures begun { IfErr result (Halts (λ last. last ≡ at)) }
+    ensures goes { IfOk result (λ turn. GoesOut lexemes.now (First extreme start) part.old at part.new turn) }
+    ensures none { IfErr result (Halts (HaltsOut lexemes.now (First extreme start) part.old at)) }
 {
     lone_words();
     let next = sign(lexemes, at, Sign::Comma)?;
@@ -143,6 +166,9 @@ fn close(
     requires { own_level frame ≡ 0 }
     ensures passes { IfOk result (Passes (texts lexemes.now) at) }
     ensures moves { IfOk result (λ turn. MovesOut lexemes.now frame part.old at part.new turn) }
+    ensures begun { IfErr result (Halts (λ last. last ≡ at)) }
+    ensures goes { IfOk result (λ turn. GoesOut lexemes.now frame part.old at part.new turn) }
+    ensures none { IfErr result (Halts (HaltsOut lexemes.now frame part.old at)) }
 {
     match frame {
         Frame::Group => group(lexemes, at, part),
@@ -169,6 +195,9 @@ fn end(
 ) -> Result<Turn, Stop>
     ensures passes { IfOk result (Passes (texts lexemes.now) at) }
     ensures moves { IfOk result (λ turn. (least : ℕ) → MovesBehind lexemes.now least part.old level at part.new turn) }
+    ensures begun { IfErr result (Halts (λ last. last ≡ at)) }
+    ensures goes { IfOk result (λ turn. (least : ℕ) → Goes (texts lexemes.now) least at (Stopped least part.old.frames level) part.new.frames turn) }
+    ensures none { IfErr result (Halts (λ last. (least : ℕ) → Halted (texts lexemes.now) least at (Stopped least part.old.frames level) last)) }
 {
     part.end_operators(1, level)?;
     match part.frames.pop() {
@@ -190,6 +219,9 @@ fn infixed(
     requires { (x : Lexical) × Next (texts lexemes.now) at x × IsInfix found x }
     ensures passes { IfOk result (Passes (texts lexemes.now) at) }
     ensures moves { IfOk result (λ turn. MovesBehind lexemes.now least part.old operand at part.new turn) }
+    ensures begun { IfErr result (Halts (λ last. last ≡ at)) }
+    ensures goes { IfOk result (λ turn. Goes (texts lexemes.now) least at (ClosesAll least part.old.frames operand) part.new.frames turn) }
+    ensures none { IfErr result (Halts (Halted (texts lexemes.now) least at (ClosesAll least part.old.frames operand))) }
 {
     let made = part.end_operators(first_level(found), operand)?;
     if first_level(found) <= made && part.frames.wanted_level(least) <= level(found) {
@@ -211,6 +243,9 @@ fn shifted(
     requires { Next (texts lexemes.now) at (shift_text is_left) }
     ensures passes { IfOk result (Passes (texts lexemes.now) at) }
     ensures moves { IfOk result (λ turn. MovesBehind lexemes.now least part.old operand at part.new turn) }
+    ensures begun { IfErr result (Halts (λ last. LeadsBehind lexemes.now least part.old operand at last)) }
+    ensures goes { IfOk result (λ turn. Goes (texts lexemes.now) least at (ClosesAll least part.old.frames operand) part.new.frames turn) }
+    ensures none { IfErr result (Halts (Halted (texts lexemes.now) least at (ClosesAll least part.old.frames operand))) }
 {
     let made = part.end_operators(8, operand)?;
     if made < 8 || part.frames.wanted_level(least) > 8 {
@@ -243,6 +278,9 @@ pub fn operator(
 ) -> Result<Turn, Stop>
     ensures passes { IfOk result (Passes (texts lexemes.now) at) }
     ensures moves { IfOk result (λ turn. MovesBehind lexemes.now least part.old level at part.new turn) }
+    ensures begun { IfErr result (Halts (λ last. LeadsBehind lexemes.now least part.old level at last)) }
+    ensures goes { IfOk result (λ turn. Goes (texts lexemes.now) least at (ClosesAll least part.old.frames level) part.new.frames turn) }
+    ensures none { IfErr result (Halts (Halted (texts lexemes.now) least at (ClosesAll least part.old.frames level))) }
 {
     let Some(lexeme) = lexeme_at(lexemes, at) else {
         return end(alloc, lexemes, at, level, part);
@@ -250,9 +288,8 @@ pub fn operator(
     if let Some(found) = infix_of(lexeme) {
         return infixed(alloc, lexemes, at, found, level, least, part);
     }
-    match lexeme {
-        Lexeme::Sign(Sign::ShiftLeft) => { shifted(alloc, lexemes, at, true, level, least, part) }
-        Lexeme::Sign(Sign::ShiftRight) => { shifted(alloc, lexemes, at, false, level, least, part) }
-        _ => end(alloc, lexemes, at, level, part),
+    if let Some(is_left) = shift_of(lexeme) {
+        return shifted(alloc, lexemes, at, is_left, level, least, part);
     }
+    end(alloc, lexemes, at, level, part)
 }

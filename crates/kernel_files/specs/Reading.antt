@@ -5,6 +5,9 @@ use Rattle.kernel_ir.specs.declared.fault.Refusal.{Refusal}
 use Rattle.kernel_ir.specs.declared.fault.Site.TheVariants.{Kernel}
 use Rattle.kernel_ir.specs.Refusals.{refusal, passed_limit}
 use Rattle.subst_rules.specs.Refused.{after}
+use Rattle.kernel_grammar.specs.declared.file.KernelFile.{KernelFile}
+use Rattle.kernel_grammar.specs.Files.{IsKernelFile}
+use Rattle.kernel_syntax.specs.Refusals.{IsNoFile}
 use Rattle.kernel_files.specs.FirstLine.{form_refusal}
 
 -- a file has at most 1048576 bytes
@@ -19,11 +22,11 @@ front_refusal bytes = option_or (bytes_refusal bytes) (form_refusal bytes)
 abbrev pub syntax_refusal : ℕ → ℕ → Refusal
 syntax_refusal line count = record (refusal Kernel 4 [] (pos count ∷ [])) { line = line }
 
--- by rule 4 at some place, or not
-abbrev pub IsSyntaxRefusal : Option Refusal → Type 0
-IsSyntaxRefusal None = Unit {0}
-IsSyntaxRefusal (Some r) = (line : ℕ) × (count : ℕ) × (r ≡ syntax_refusal line count)
+-- The bytes are a kernel file, or are refused by rule 4 as none, after so many bytes of a line.
+abbrev pub IsSyntaxRefusal : List ℕ → Option Refusal → Type 0
+IsSyntaxRefusal bytes None = (file : KernelFile) × IsKernelFile bytes file
+IsSyntaxRefusal bytes (Some r) = IsNoFile bytes × (line : ℕ) × (count : ℕ) × (r ≡ syntax_refusal line count)
 
 -- How bytes are refused that are no kernel file.
 abbrev pub IsFileRefusal : List ℕ → Option Refusal → Type 0
-IsFileRefusal bytes = after (front_refusal bytes) IsSyntaxRefusal
+IsFileRefusal bytes = after (front_refusal bytes) (IsSyntaxRefusal bytes)

@@ -134,15 +134,15 @@ said file read answer is h = subst (λ (r : ReadKernel). IfOk answer (λ k. k �
 
 -- ---- bytes
 
-front_case : (o : Option Refusal) → after o IsSyntaxRefusal None → o ≡ None
-front_case None h = refl
-front_case (Some r) h = absurd (cc)
+front_case : (bytes : List ℕ) (o : Option Refusal) → after o (IsSyntaxRefusal bytes) None → o ≡ None
+front_case bytes None h = refl
+front_case bytes (Some r) h = absurd (cc)
 
 -- bytes that are read are not refused as a whole
 pub front_none : (bytes : List ℕ) → IsFileRefusal bytes None → front_refusal bytes ≡ None
-front_none bytes h = front_case (front_refusal bytes) h
+front_none bytes h = front_case bytes (front_refusal bytes) h
 
-text_case : (bytes : List ℕ) (o : Option Refusal) (r : Refusal) → after o IsSyntaxRefusal (Some r) → after o (IsTextRefusal bytes) (Some r)
+text_case : (bytes : List ℕ) (o : Option Refusal) (r : Refusal) → after o (IsSyntaxRefusal bytes) (Some r) → after o (IsTextRefusal bytes) (Some r)
 text_case bytes None r h = inl h
 text_case bytes (Some first) r h = h
 

@@ -36,7 +36,7 @@ IsContentRefusal file = after (lines_refusal file) (IsUsesRefusal (read_of file)
 -- a text that is no kernel file, or a file that is refused
 abbrev pub IsTextRefusal : List ℕ → Option Refusal → Type 0
 IsTextRefusal bytes None = (file : KernelFile) × IsKernelFile bytes file × IsContentRefusal file None
-IsTextRefusal bytes (Some r) = IsSyntaxRefusal (Some r) ⊎ ((file : KernelFile) × IsKernelFile bytes file × IsContentRefusal file (Some r))
+IsTextRefusal bytes (Some r) = IsSyntaxRefusal bytes (Some r) ⊎ ((file : KernelFile) × IsKernelFile bytes file × IsContentRefusal file (Some r))
 
 -- Of what the bytes are refused, if of anything: rules 3 and 5 of the file as a whole first.
 abbrev pub IsReadingRefusal : List ℕ → Option Refusal → Type 0

@@ -2,3 +2,8 @@ pub mod ChainSteps
 pub mod LineSteps
 pub mod FileSteps
 pub mod Kernels
+pub mod Leads
+pub mod ChainEnds
+pub mod InsnEnds
+pub mod LineEnds
+pub mod FileEnds

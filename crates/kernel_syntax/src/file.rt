@@ -1,10 +1,12 @@
 //! Whole files.
-ghost use Rattle.std.specs.Prelude.{◌≡◌, ◌+◌, ◌<◌, ◌≤◌, length, IfOk, IfSome};
-ghost use Rattle.kernel_grammar.specs.Files.{file_of, file_text};
-ghost use Rattle.kernel_grammar.specs.Lexicals.{line_end};
+ghost use Rattle.std.specs.Prelude.{◌≡◌, ◌+◌, ◌<◌, ◌≤◌, [], length, IfOk, MatchOption};
+ghost use Rattle.std.specs.Result.{IfErr};
+ghost use Rattle.kernel_grammar.specs.Files.{file_of, file_text, lines_text};
+ghost use Rattle.kernel_grammar.specs.Lexicals.{key, line_end};
 ghost use Rattle.kernel_expressions.specs.Reads.{IsItem, Next, Reads};
 ghost use Rattle.kernel_expressions.specs.Texts.{texts, IsFit};
-ghost use Rattle.kernel_syntax.specs.FileParts.{head_text, AreLines, IsEnded};
+ghost use Rattle.kernel_expressions.specs.Settled.{AnyRest, Ends, Halts, NoneNext, Spells, Stops};
+ghost use Rattle.kernel_syntax.specs.FileParts.{ended_text, head_text, AreLines, IsEnded, RefusesFile};
 ghost use Rattle.kernel_syntax.specs.Parts.{Is};
 
 use crate::lines::line;
@@ -18,7 +20,7 @@ use std::alloc::Global;
 
 /// The place behind the end of a line, if one stands there.
 fn behind_end(lexemes: &[Lexeme], at: usize) -> Option<usize>
-    ensures { IfSome result (λ next. (next ≡ at + 1) × Next (texts lexemes.now) at line_end) }
+    ensures { MatchOption result (Next (texts lexemes.now) at line_end → ⊥) (λ next. (next ≡ at + 1) × Next (texts lexemes.now) at line_end) }
 {
     match lexeme_at(lexemes, at) {
         Some(Lexeme::LineEnd) => Some(at + 1),
@@ -28,21 +30,34 @@ fn behind_end(lexemes: &[Lexeme], at: usize) -> Option<usize>
 
 /// Reads the end of a line.
 fn end_of_line(lexemes: &[Lexeme], at: usize) -> Result<usize, Stop>
-    ensures { IfOk result (λ next. (next ≡ at + 1) × Next (texts lexemes.now) at line_end) }
+    ensures read { IfOk result (λ next. (next ≡ at + 1) × Next (texts lexemes.now) at line_end) }
+    ensures stops { IfErr result (Halts (NoneNext (texts lexemes.now) at (λ x. x ≡ line_end))) }
 {
     behind_end(lexemes, at).ok_or(Stop::Refused { at })
 }
 
+/// The place behind `kernel`, if it stands there.
+fn behind_kernel(lexemes: &[Lexeme], at: usize) -> Option<usize>
+    ensures { MatchOption result (Next (texts lexemes.now) at (key "kernel") → ⊥) (λ next. (next ≡ at + 1) × Next (texts lexemes.now) at (key "kernel")) }
+{
+    match lexeme_at(lexemes, at) {
+        Some(Lexeme::Key(Key::Kernel)) => Some(at + 1),
+        _ => None,
+    }
+}
+
 /// Reads `kernel 1` and the end of its line.
 fn head(lexemes: &[Lexeme], at: usize) -> Result<usize, Stop>
-    ensures { IfOk result (λ next. Reads (texts lexemes.now) at next (Is head_text)) }
+    ensures read { IfOk result (λ next. Reads (texts lexemes.now) at next (Is head_text)) }
+    ensures ends { IfOk result (λ next. Ends (texts lexemes.now) (Is head_text) AnyRest at next) }
+    ensures stops { at ≤ length (texts lexemes.now) → IfErr result (Halts (Stops (texts lexemes.now) (Is head_text) AnyRest at)) }
 {
-    let Some(Lexeme::Key(Key::Kernel)) = lexeme_at(lexemes, at) else {
+    let Some(next) = behind_kernel(lexemes, at) else {
         return Err(Stop::Refused { at });
     };
-    let (digits, behind) = digits(lexemes, at + 1)?;
+    let (digits, behind) = digits(lexemes, next)?;
     if digits != b"1".as_slice() {
-        return Err(Stop::Refused { at: at + 1 });
+        return Err(Stop::Refused { at: next });
     }
     end_of_line(lexemes, behind)
 }
@@ -52,6 +67,8 @@ fn ended_line(alloc: Global, lexemes: &[Lexeme], at: usize) -> Result<(Option<It
     requires { at ≤ length (texts lexemes.now) }
     ensures on { IfOk result (λ read. at < read.1) }
     ensures read { IfOk result (λ read. Reads (texts lexemes.now) at read.1 (IsEnded (IsFit (texts lexemes.now)) read.0)) }
+    ensures ends { IfOk result (λ read. Ends (texts lexemes.now) (Spells ended_text) AnyRest at read.1) }
+    ensures stops { IfErr result (Halts (Stops (texts lexemes.now) (Spells ended_text) AnyRest at)) }
 {
     if let Some(next) = behind_end(lexemes, at) {
         return Ok((None, next));
@@ -63,7 +80,8 @@ fn ended_line(alloc: Global, lexemes: &[Lexeme], at: usize) -> Result<(Option<It
 /// Reads the lines behind the first that says something, with which so many are read.
 fn entries(alloc: Global, lexemes: &[Lexeme], at: usize, before: u32) -> Result<Listed<Entry>, Stop>
     requires { at ≤ length (texts lexemes.now) }
-    ensures { IfOk result (λ entries. Reads (texts lexemes.now) at (length (texts lexemes.now)) (AreLines (IsFit (texts lexemes.now)) before entries)) }
+    ensures read { IfOk result (λ entries. Reads (texts lexemes.now) at (length (texts lexemes.now)) (AreLines (IsFit (texts lexemes.now)) before entries)) }
+    ensures stops { IfErr result (Halts (Stops (texts lexemes.now) (Spells lines_text) (Is []) at)) }
 {
     let mut entries = Listed::new(alloc);
     let mut at = at;
@@ -81,7 +99,8 @@ fn entries(alloc: Global, lexemes: &[Lexeme], at: usize, before: u32) -> Result<
 
 /// Reads a whole file.
 pub fn file(alloc: Global, lexemes: &[Lexeme]) -> Result<KernelFile, Stop>
-    ensures { IfOk result (λ file. IsItem (IsFit (texts lexemes.now)) file_text file_of file (texts lexemes.now)) }
+    ensures read { IfOk result (λ file. IsItem (IsFit (texts lexemes.now)) file_text file_of file (texts lexemes.now)) }
+    ensures stops { IfErr result (Halts (RefusesFile (texts lexemes.now))) }
 {
     let mut before: u32 = 1;
     let mut at = 0;

@@ -9,7 +9,8 @@ ghost use Rattle.kernel_grammar.specs.Files.{file_of, file_text, IsKernelFile};
 ghost use Rattle.kernel_grammar.specs.Lexicals.{lexicals};
 ghost use Rattle.kernel_expressions.specs.Reads.{IsItem};
 ghost use Rattle.kernel_expressions.specs.Texts.{IsFit};
-ghost use Rattle.kernel_syntax.specs.Refusals.{IsNoLimit};
+ghost use Rattle.kernel_syntax.specs.Refusals.{IfSyntax, IsNoFile, IsNoLimit};
+ghost use Rattle.kernel_expressions.specs.Settled.{Spells};
 
 use crate::file::file;
 use crate::place::fault_at;
@@ -17,7 +18,7 @@ use kernel_expressions::lexemes::lexemes;
 use kernel_expressions::stop::Stop;
 use kernel_grammar::KernelFile;
 use std::alloc::{AllocError, Global};
-use text_reader::laws::{few_tokens, spelled_tokens};
+use text_reader::laws::{few_tokens, one_list, spelled_tokens};
 use text_reader::{Form, Front, TextFault, Token, read_front, scan};
 
 /// The syntax of tokens, behind which stand the bytes from one place to another.
@@ -31,6 +32,7 @@ fn syntax_of(
     requires spelled { All (IsSpelledIn Kernel bytes.now) tokens.now }
     ensures read { IfOk result (λ file. IsItem (IsFit (lexicals bytes.now tokens.now)) file_text file_of file (lexicals bytes.now tokens.now)) }
     ensures unlimited { IfErr result IsNoLimit }
+    ensures none { IfErr result (IfSyntax (Spells file_text (lexicals bytes.now tokens.now) → ⊥)) }
 {
     let lexemes = lexemes(alloc, bytes, tokens)?;
     match file(alloc, &lexemes) {
@@ -55,14 +57,16 @@ fn text_fault(alloc: Global, bytes: &[u8], count: u32) -> Result<TextFault, Allo
 
 /// The syntax of the bytes of a kernel file. The bytes are at most 4294967294. Nesting costs no stack.
 ///
-/// It is `Syntax` where the bytes are no kernel file, at the end of their longest front with which some kernel file begins; no
-/// clause says when it comes. It is never `Limit`: a number past 18446744073709551615 is one of the syntax.
+/// It is `Syntax` only where the bytes are no kernel file, at the end of their longest front with which some kernel file begins; no
+/// clause states that place. It is never `Limit`: a number past 18446744073709551615 is one of the syntax.
 pub fn read_syntax(alloc: Global, bytes: &[u8]) -> Result<KernelFile, TextFault>
     requires { length bytes.now < 2 ^ 32 - 1 }
     ensures read { IfOk result (IsKernelFile bytes.now) }
     ensures unlimited { IfErr result IsNoLimit }
+    ensures none { IfErr result (IfSyntax (IsNoFile bytes.now)) }
 {
     few_tokens();
+    one_list();
     spelled_tokens();
     match scan(alloc, bytes, Form::Kernel) {
         Ok(tokens) => {
