@@ -49,21 +49,21 @@ one_token all at x y h k = let e : x ∷ drop (at + 1) all ≡ y ∷ drop (at + 
 
 -- ---- from place to place
 
-pub leads_on : (all : List Lexical) (E P Q R : List Lexical → Type 0) (a b c : ℕ) → Leads all E a P b Q → Leads all E b Q c R → Leads all E a P c R
-leads_on all E P Q R a b c h k = record {
+pub leads_on : {all : List Lexical} {E P Q R : List Lexical → Type 0} {a b c : ℕ} → Leads all E a P b Q → Leads all E b Q c R → Leads all E a P c R
+leads_on {all} {E} {P} {Q} {R} {a} {b} {c} h k = record {
   on = omega (arith, h.on, k.on);
   left = λ others rest same s. k.left others rest same (h.left others rest (same_less all others b c k.on same) s);
 }
 
-pub leads_never : (all : List Lexical) (E P Q : List Lexical → Type 0) (a b last : ℕ) → Leads all E a P b Q → Never all E b Q last → Never all E a P last
-leads_never all E P Q a b last h k = record {
+pub leads_never : {all : List Lexical} {E P Q : List Lexical → Type 0} {a b last : ℕ} → Leads all E a P b Q → Never all E b Q last → Never all E a P last
+leads_never {all} {E} {P} {Q} {a} {b} {last} h k = record {
   on = omega (arith, h.on, k.on);
   none = λ others rest same s. k.none others rest same (h.left others rest (same_less all others b last k.on same) s);
 }
 
 -- another sort of text at the same place
-pub leads_as : (all : List Lexical) (E P Q : List Lexical → Type 0) (a : ℕ) → ((t : List Lexical) → P t → Q t) → Leads all E a P a Q
-leads_as all E P Q a made = record {
+pub leads_as : {all : List Lexical} {E P Q : List Lexical → Type 0} {a : ℕ} → ((t : List Lexical) → P t → Q t) → Leads all E a P a Q
+leads_as {all} {E} {P} {Q} {a} made = record {
   on = omega arith;
   left = λ others rest same s. record { text = s.text; here = s.here; is = made s.text s.is; behind = s.behind };
 }
@@ -80,21 +80,21 @@ sees all others tokens a n h same e = record {
 }
 
 -- the token at the place tells
-pub leads_here : (all : List Lexical) (E P Q : List Lexical → Type 0) (a : ℕ) → ((t rest : List Lexical) → P t → E rest → Sees all a (t ++ rest) → Q t) → Leads all E a P a Q
-leads_here all E P Q a made = record {
+pub leads_here : {all : List Lexical} {E P Q : List Lexical → Type 0} {a : ℕ} → ((t rest : List Lexical) → P t → E rest → Sees all a (t ++ rest) → Q t) → Leads all E a P a Q
+leads_here {all} {E} {P} {Q} {a} made = record {
   on = omega arith;
   left = λ others rest same s. record { text = s.text; here = s.here; is = made s.text rest s.is s.behind (sees all others (s.text ++ rest) a a (omega arith) same s.here); behind = s.behind };
 }
 
-pub never_here : (all : List Lexical) (E P : List Lexical → Type 0) (a last : ℕ) → last ≡ a → ((t rest : List Lexical) → P t → E rest → Sees all a (t ++ rest) → ⊥) → Never all E a P last
-never_here all E P a last e made = record {
+pub never_here : {all : List Lexical} {E P : List Lexical → Type 0} {a last : ℕ} → last ≡ a → ((t rest : List Lexical) → P t → E rest → Sees all a (t ++ rest) → ⊥) → Never all E a P last
+never_here {all} {E} {P} {a} {last} e made = record {
   on = omega (arith, e);
   none = λ others rest same s. made s.text rest s.is s.behind (sees all others (s.text ++ rest) a last (omega (arith, e)) same s.here);
 }
 
 -- a token is behind
-pub leads_past : (all : List Lexical) (E Q : List Lexical → Type 0) (a next : ℕ) (x : Lexical) → next ≡ a + 1 → Leads all E a (Past x Q) next Q
-leads_past all E Q a next x e = record {
+pub leads_past : {all : List Lexical} {E Q : List Lexical → Type 0} {a next : ℕ} {x : Lexical} → next ≡ a + 1 → Leads all E a (Past x Q) next Q
+leads_past {all} {E} {Q} {a} {next} {x} e = record {
   on = omega (arith, e);
   left = λ others rest same s. record {
     text = s.is.left;
@@ -105,15 +105,15 @@ leads_past all E Q a next x e = record {
 }
 
 -- another token stands there
-pub never_past : (all : List Lexical) (E Q : List Lexical → Type 0) (a last : ℕ) (x : Lexical) → last ≡ a → (Next all a x → ⊥) → Never all E a (Past x Q) last
-never_past all E Q a last x e other = record {
+pub never_past : {all : List Lexical} {E Q : List Lexical → Type 0} {a last : ℕ} {x : Lexical} → last ≡ a → (Next all a x → ⊥) → Never all E a (Past x Q) last
+never_past {all} {E} {Q} {a} {last} {x} e other = record {
   on = omega (arith, e);
   none = λ others rest same s. other (agrees all others (s.is.left ++ rest) a last x (omega (arith, e)) same (s.here ∙ ap (λ xs. xs ++ rest) s.is.is));
 }
 
 -- a token of the sort is behind
-pub leads_some : (all : List Lexical) (E Q : List Lexical → Type 0) (S : Lexical → Type 0) (a next : ℕ) → next ≡ a + 1 → Leads all E a (PastSome S Q) next Q
-leads_some all E Q S a next e = record {
+pub leads_some : {all : List Lexical} {E Q : List Lexical → Type 0} {S : Lexical → Type 0} {a next : ℕ} → next ≡ a + 1 → Leads all E a (PastSome S Q) next Q
+leads_some {all} {E} {Q} {S} {a} {next} e = record {
   on = omega (arith, e);
   left = λ others rest same s. record {
     text = s.is.left;
@@ -124,37 +124,37 @@ leads_some all E Q S a next e = record {
 }
 
 -- no token of the sort stands there
-pub never_some : (all : List Lexical) (E Q : List Lexical → Type 0) (S : Lexical → Type 0) (a last : ℕ) → NoneNext all a S last → Never all E a (PastSome S Q) last
-never_some all E Q S a last h = never_here all E (PastSome S Q) a last h.same (λ t rest p b s. h.none p.first (s.token p.first (p.left ++ rest) (ap (λ xs. xs ++ rest) p.is)) p.sort)
+pub never_some : {all : List Lexical} {E Q : List Lexical → Type 0} {S : Lexical → Type 0} {a last : ℕ} → NoneNext all a S last → Never all E a (PastSome S Q) last
+never_some {all} {E} {Q} {S} {a} {last} h = never_here h.same (λ t rest p b s. h.none p.first (s.token p.first (p.left ++ rest) (ap (λ xs. xs ++ rest) p.is)) p.sort)
 
 -- the same, behind what leads there
-pub past_on : (all : List Lexical) (E P Q : List Lexical → Type 0) (a b c : ℕ) (x : Lexical) → Leads all E a P b (Past x Q) → c ≡ b + 1 → Leads all E a P c Q
-past_on all E P Q a b c x h e = leads_on all E P (Past x Q) Q a b c h (leads_past all E Q b c x e)
+pub past_on : {all : List Lexical} {E P Q : List Lexical → Type 0} {a b c : ℕ} {x : Lexical} → Leads all E a P b (Past x Q) → c ≡ b + 1 → Leads all E a P c Q
+past_on {all} {E} {P} {Q} {a} {b} {c} {x} h e = leads_on h (leads_past e)
 
-pub some_on : (all : List Lexical) (E P Q : List Lexical → Type 0) (S : Lexical → Type 0) (a b c : ℕ) → Leads all E a P b (PastSome S Q) → c ≡ b + 1 → Leads all E a P c Q
-some_on all E P Q S a b c h e = leads_on all E P (PastSome S Q) Q a b c h (leads_some all E Q S b c e)
+pub some_on : {all : List Lexical} {E P Q : List Lexical → Type 0} {S : Lexical → Type 0} {a b c : ℕ} → Leads all E a P b (PastSome S Q) → c ≡ b + 1 → Leads all E a P c Q
+some_on {all} {E} {P} {Q} {S} {a} {b} {c} h e = leads_on h (leads_some e)
 
-pub past_halts : (all : List Lexical) (E P Q : List Lexical → Type 0) (a b last : ℕ) (x : Lexical) → Leads all E a P b (Past x Q) → NoneNext all b (λ y. y ≡ x) last → Never all E a P last
-past_halts all E P Q a b last x h k = leads_never all E P (Past x Q) a b last h (never_past all E Q b last x k.same (λ n. k.none x n refl))
+pub past_halts : {all : List Lexical} {E P Q : List Lexical → Type 0} {a b last : ℕ} {x : Lexical} → Leads all E a P b (Past x Q) → NoneNext all b (λ y. y ≡ x) last → Never all E a P last
+past_halts {all} {E} {P} {Q} {a} {b} {last} {x} h k = leads_never h (never_past k.same (λ n. k.none x n refl))
 
-pub some_halts : (all : List Lexical) (E P Q : List Lexical → Type 0) (S : Lexical → Type 0) (a b last : ℕ) → Leads all E a P b (PastSome S Q) → NoneNext all b S last → Never all E a P last
-some_halts all E P Q S a b last h k = leads_never all E P (PastSome S Q) a b last h (never_some all E Q S b last k)
+pub some_halts : {all : List Lexical} {E P Q : List Lexical → Type 0} {S : Lexical → Type 0} {a b last : ℕ} → Leads all E a P b (PastSome S Q) → NoneNext all b S last → Never all E a P last
+some_halts {all} {E} {P} {Q} {S} {a} {b} {last} h k = leads_never h (never_some k)
 
 -- a refusal where a text of some sort is wanted
-pub halts_as : (P Q : ℕ → Type 0) (stop : Stop) → Halts P stop → ((last : ℕ) → P last → Q last) → Halts Q stop
-halts_as P Q OutOfMemory h made = tt
-halts_as P Q (Refused at) h made = made at h
+pub halts_as : {P Q : ℕ → Type 0} (stop : Stop) → Halts P stop → ((last : ℕ) → P last → Q last) → Halts Q stop
+halts_as {P} {Q} OutOfMemory h made = tt
+halts_as {P} {Q} (Refused at) h made = made at h
 
-pub refused_as : {X : Type 0} (P Q : ℕ → Type 0) (r : Result X Stop) → IfErr r (Halts P) → ((last : ℕ) → P last → Q last) → IfErr r (Halts Q)
-refused_as P Q (Ok x) h made = tt
-refused_as P Q (Err stop) h made = halts_as P Q stop h made
+pub refused_as : {X : Type 0} {P Q : ℕ → Type 0} (r : Result X Stop) → IfErr r (Halts P) → ((last : ℕ) → P last → Q last) → IfErr r (Halts Q)
+refused_as {X} {P} {Q} (Ok x) h made = tt
+refused_as {X} {P} {Q} (Err stop) h made = halts_as stop h made
 
 -- a refusal is passed on
-pub passed_on : {X : Type 0} (P Q : ℕ → Type 0) (r : Result X Stop) (stop : Stop) → IsErrAnd r (λ e. e ≡ stop) → Halts P stop → ((last : ℕ) → P last → Q last) → IfErr r (Halts Q)
-passed_on P Q (Ok x) stop e h made = tt
-passed_on P Q (Err other) stop e h made = subst (Halts Q) (sym e) (halts_as P Q stop h made)
+pub passed_on : {X : Type 0} {P Q : ℕ → Type 0} (r : Result X Stop) (stop : Stop) → IsErrAnd r (λ e. e ≡ stop) → Halts P stop → ((last : ℕ) → P last → Q last) → IfErr r (Halts Q)
+passed_on {X} {P} {Q} (Ok x) stop e h made = tt
+passed_on {X} {P} {Q} (Err other) stop e h made = subst (Halts Q) (sym e) (halts_as stop h made)
 
 -- an answer is as well this
-pub answers_as : {X : Type 0} (P Q : X → Type 0) (r : Result X Stop) → IfOk r P → ((x : X) → P x → Q x) → IfOk r Q
-answers_as P Q (Ok x) h made = made x h
-answers_as P Q (Err stop) h made = tt
+pub answers_as : {X : Type 0} {P Q : X → Type 0} (r : Result X Stop) → IfOk r P → ((x : X) → P x → Q x) → IfOk r Q
+answers_as {X} {P} {Q} (Ok x) h made = made x h
+answers_as {X} {P} {Q} (Err stop) h made = tt

@@ -39,9 +39,6 @@ no_links cur to text others [] h e k = (e, k)
 no_links cur to text others (applied op y u ∷ links) h e k = absurd (omega (arith, (bounds op).some, sym (level_is op y e.0) ∙ h.operator y ((u ++ tail_text links) ++ others) k))
 no_links cur to text others (shifted is_left d ∷ links) h e k = absurd (omega (arith, shift_level is_left, h.operator (shift_text is_left) (number d ∷ tail_text links ++ others) k))
 
-low_own : (p : ℕ) (f : Frame) → own_level f ≡ 0 → 0 < p → nat_le p (own_level f) ≡ false
-low_own p f e h = past p (own_level f) (omega (arith, e, h))
-
 closes_part : (least : ℕ) (text : List Lexical) (f : Frame) (frames : List Frame) (done : List Step) (cur : ℕ) (close rest : List Lexical) → inner_level f ≤ cur → Closing f close → ClosesAll least frames (made_level f) rest → text ≡ close ++ rest
     → ((next : List Step) → ClosesAll least frames (own_level f) text → Closed least text (ended 1 frames next (own_level f))) → Closed least text (ended 1 (f ∷ frames) done cur)
 closes_part least text (frame.Infix g) frames done cur close rest l c k e ih =
@@ -70,9 +67,6 @@ nothing_left = record { operator = λ x xs e. absurd (cc) }
 some_places : (texts : List (List Lexical)) (close : Lexical) (rest : List Lexical) → [] ≡ more_places texts close ++ rest → ⊥
 some_places [] close rest e = cc
 some_places (text ∷ texts) close rest e = cc
-
-pub record AllEnded (held : Held) : Type 0 where
-  pub none : held.frames ≡ []
 
 -- where no text is left, only operators are open
 only_operators : (f : Frame) (close rest : List Lexical) → Closing f close → [] ≡ close ++ rest → (made_level f ≡ own_level f) × (own_level f ≤ inner_level f) × ([] ≡ rest)

@@ -1,5 +1,5 @@
 -- Names in parentheses.
-use Rattle.std.proofs.Common.{◌≡◌, ◌<◌, ◌≤◌, ◌+◌, ℕ, Bool, true, false, nat_le, not, codes, List, [], ◌∷◌, ◌++◌, take, drop, length, length-append, map, ap, sym, refl, ◌∙◌, subst, append_assoc, arith, Result, Ok, Err}
+use Rattle.std.proofs.Common.{◌≡◌, ◌<◌, ◌≤◌, ◌+◌, ℕ, Bool, true, false, nat_le, not, codes, List, [], ◌∷◌, ◌++◌, take, drop, length, length-append, map, ap, sym, refl, ◌∙◌, subst, append_assoc, arith, Result}
 use Rattle.std.specs.Result.{IfOk}
 use Rattle.std.proofs.lemmas.Bool.Decides.{nat_tests}
 use Rattle.std.proofs.lemmas.List.{length-take-le}
@@ -15,76 +15,21 @@ use Rattle.kernel_expressions.specs.declared.partial.Partial.{Partial}
 use Rattle.kernel_expressions.specs.declared.partial.Turn as turn
 use Rattle.kernel_expressions.specs.declared.stop.Stop.TheVariants.{OutOfMemory, Refused}
 use Rattle.kernel_expressions.specs.Texts.{texts}
-use Rattle.kernel_grammar.specs.Trees.{Over, bare, names}
-use Rattle.kernel_grammar.specs.Spelling.{extreme_text, name_text, names_text, in_parentheses, over_text}
+use Rattle.kernel_grammar.specs.Spelling.{extreme_text, name_text, names_text, in_parentheses}
 use Rattle.kernel_expressions.specs.declared.stop.Stop.{Stop}
-use Rattle.kernel_expressions.specs.Turns.{OpensPart, InParens, IsOver, AreInames}
+use Rattle.kernel_expressions.specs.Turns.{OpensPart, InParens, AreInames}
 use Rattle.kernel_expressions.specs.Reads.{Next, Reads, IsList, word_of}
-use Rattle.kernel_expressions.specs.Settled.{SpellsList, SameTo, Stands, Ends, Stops, Halts, Behind, AnyRest, NoneNext, is_mark, ends_level}
-use Rattle.kernel_expressions.specs.Follows.{Leads, Never, Past, PastSome, Joins, BeginsInames, start, WantsBody, ExtremeLeft, of_two, over_names, Shaped, OperandLeft, wanted, first_iname, GoesShaped}
+use Rattle.kernel_expressions.specs.Settled.{SpellsList, SameTo, Stands, Ends, Stops, Halts, Behind, AnyRest, is_mark}
+use Rattle.kernel_expressions.specs.Follows.{Looser, Leads, Never, Past, Joins, BeginsInames, start, WantsBody, ExtremeLeft, of_two, over_names, Shaped, OperandLeft, wanted, first_iname, GoesShaped}
 use Rattle.kernel_expressions.proofs.Join.{text_length}
-use Rattle.kernel_expressions.proofs.Agreeing.{agrees, same_less, one_token, leads_as, leads_on, leads_never, leads_here, past_on, past_halts, some_on, some_halts, answers_as}
+use Rattle.kernel_expressions.proofs.Agreeing.{agrees, leads_as, leads_on, leads_never, past_on, answers_as}
 use Rattle.kernel_expressions.proofs.NoNames.{no_names}
 use Rattle.kernel_expressions.proofs.Shutting.{opens_left}
-use Rattle.kernel_expressions.proofs.Operands.{from_shaped, joins_on, joins_halts, ends_there}
+use Rattle.kernel_expressions.proofs.Operands.{from_shaped}
 
 -- what stands behind names
 abbrev pub NoComma : List Lexical → Type 0
 NoComma = Behind (λ x. not (is_mark (codes ",") x))
-
--- names and a parenthesis
-abbrev pub NamesLeft : List Lexical → Type 0
-NamesLeft = Joins (SpellsList name_text (mark ",")) (Past (mark ")") (λ u. u ≡ []))
-
-closed : (u rest : List Lexical) → Past (mark ")") (λ v. v ≡ []) u → NoComma (u ++ rest)
-closed u rest h = subst NoComma (sym (ap (λ xs. xs ++ rest) h.is)) refl
-
-never_stops : (all : List Lexical) (P E : List Lexical → Type 0) (at last : ℕ) → Stops all P E at last → Never all E at P last
-never_stops all P E at last h = record { on = h.on; none = h.none }
-
-parens_open : (all : List Lexical) (at : ℕ) → Leads all AnyRest at (InParens ⊥ []) at (Past (mark "(") NamesLeft)
-parens_open all at = leads_as all AnyRest (InParens ⊥ []) (Past (mark "(") NamesLeft) at (λ t h. record {
-  left = names_text (h.first ∷ h.more) ++ mark ")" ∷ [];
-  is = sym h.spelled;
-  ends = record { front = names_text (h.first ∷ h.more); left = mark ")" ∷ []; is = refl; begins = record { first = h.first; more = h.more; spelled = refl }; ends = record { left = []; is = refl; ends = refl } };
-})
-
-pub parens_names : (all : List Lexical) (at a : ℕ) → a ≡ at + 1 → Leads all AnyRest at (InParens ⊥ []) a NamesLeft
-parens_names all at a e = past_on all AnyRest (InParens ⊥ []) NamesLeft at at a (mark "(") (parens_open all at) e
-
-pub parens_first : (all : List Lexical) (at last : ℕ) → NoneNext all at (λ x. x ≡ mark "(") last → Never all AnyRest at (InParens ⊥ []) last
-parens_first all at last h = past_halts all AnyRest (InParens ⊥ []) NamesLeft at at last (mark "(") (parens_open all at) h
-
-pub parens_second : (all : List Lexical) (at a last : ℕ) → a ≡ at + 1 → Stops all (SpellsList name_text (mark ",")) NoComma a last → Never all AnyRest at (InParens ⊥ []) last
-parens_second all at a last e h = joins_halts all AnyRest NoComma (InParens ⊥ []) (SpellsList name_text (mark ",")) (Past (mark ")") (λ u. u ≡ [])) at a last (parens_names all at a e) (never_stops all (SpellsList name_text (mark ",")) NoComma a last h) closed
-
-pub parens_close : (all : List Lexical) (at a b : ℕ) → a ≡ at + 1 → a ≤ b → Ends all (SpellsList name_text (mark ",")) NoComma a b → Leads all AnyRest at (InParens ⊥ []) b (Past (mark ")") (λ u. u ≡ []))
-parens_close all at a b e le h = joins_on all AnyRest NoComma (InParens ⊥ []) (SpellsList name_text (mark ",")) (Past (mark ")") (λ u. u ≡ [])) at a b (parens_names all at a e) le h closed
-
-pub parens_end : (all : List Lexical) (at a b c : ℕ) → a ≡ at + 1 → a ≤ b → Ends all (SpellsList name_text (mark ",")) NoComma a b → c ≡ b + 1 → Ends all (InParens ⊥ []) AnyRest at c
-parens_end all at a b c e le h f = ends_there all AnyRest (InParens ⊥ []) at c (past_on all AnyRest (InParens ⊥ []) (λ u. u ≡ []) at b c (mark ")") (parens_close all at a b e le h) f)
-
--- inames and a comma
-inames_open : (all : List Lexical) (at : ℕ) → Leads all AnyRest at (AreInames ⊥ []) at (Joins (InParens ⊥ []) (Past (mark ",") (λ u. u ≡ [])))
-inames_open all at = leads_as all AnyRest (AreInames ⊥ []) (Joins (InParens ⊥ []) (Past (mark ",") (λ u. u ≡ []))) at (λ t h. record {
-  front = in_parentheses (names_text (h.tree.0 ∷ h.tree.1));
-  left = mark "," ∷ [];
-  is = sym h.spelled;
-  begins = record { first = h.tree.0; more = h.tree.1; spelled = refl; means = λ s. absurd s };
-  ends = record { left = []; is = refl; ends = refl };
-})
-
-pub inames_first : (all : List Lexical) (at last : ℕ) → Never all AnyRest at (InParens ⊥ []) last → Never all AnyRest at (AreInames ⊥ []) last
-inames_first all at last h = joins_halts all AnyRest AnyRest (AreInames ⊥ []) (InParens ⊥ []) (Past (mark ",") (λ u. u ≡ [])) at at last (inames_open all at) h (λ u rest q. tt)
-
-pub inames_close : (all : List Lexical) (at b : ℕ) → at ≤ b → Ends all (InParens ⊥ []) AnyRest at b → Leads all AnyRest at (AreInames ⊥ []) b (Past (mark ",") (λ u. u ≡ []))
-inames_close all at b le h = joins_on all AnyRest AnyRest (AreInames ⊥ []) (InParens ⊥ []) (Past (mark ",") (λ u. u ≡ [])) at at b (inames_open all at) le h (λ u rest q. tt)
-
-pub inames_comma : (all : List Lexical) (at b last : ℕ) → at ≤ b → Ends all (InParens ⊥ []) AnyRest at b → NoneNext all b (λ x. x ≡ mark ",") last → Never all AnyRest at (AreInames ⊥ []) last
-inames_comma all at b last le h k = past_halts all AnyRest (AreInames ⊥ []) (λ u. u ≡ []) at b last (mark ",") (inames_close all at b le h) k
-
-pub inames_end : (all : List Lexical) (at b c : ℕ) → at ≤ b → Ends all (InParens ⊥ []) AnyRest at b → c ≡ b + 1 → Ends all (AreInames ⊥ []) AnyRest at c
-inames_end all at b c le h e = ends_there all AnyRest (AreInames ⊥ []) at c (past_on all AnyRest (AreInames ⊥ []) (λ u. u ≡ []) at b c (mark ",") (inames_close all at b le h) e)
 
 -- ---- where inames begin, they are refused behind their first name
 
@@ -125,42 +70,7 @@ names_long S list all a b h = omega (arith, text_length all a b (IsList S name_t
 pub parens_long : (S : Type 0) (list : List (List ℕ)) (all : List Lexical) (a b : ℕ) → Reads all a b (InParens S list) → a + 2 ≤ b
 parens_long S list all a b h = omega (arith, text_length all a b (InParens S list) h, ap length h.is.spelled, length-append (names_text (h.is.first ∷ h.is.more)) (mark ")" ∷ []))
 
--- ---- a name, or names in parentheses
-
--- A parenthesis stands there, so the names do.
-over_parens : (o : Over) (t : List Lexical) → over_text o ≡ t → ((x : Lexical) (xs : List Lexical) → t ≡ x ∷ xs → x ≡ mark "(") → InParens ⊥ [] t
-over_parens (bare name) t e first = let same : word name.word ≡ mark "(" = first (word name.word) [] (sym e) in absurd (cc)
-over_parens (names name list) t e first = record { first = name; more = list; spelled = e; means = λ s. absurd s }
-
-over_there : (all : List Lexical) (at : ℕ) → Next all at (mark "(") → Leads all AnyRest at (IsOver ⊥ []) at (InParens ⊥ [])
-over_there all at n = leads_here all AnyRest (IsOver ⊥ []) (InParens ⊥ []) at (λ t rest p b s. over_parens p.tree t p.spelled (λ x xs e. one_token all at x (mark "(") (s.token x (xs ++ rest) (ap (λ ys. ys ++ rest) e)) n))
-
-pub over_ends : {X : Type 0} (all : List Lexical) (at : ℕ) (r : Result (X × ℕ) Stop) → Next all at (mark "(") → IfOk r (λ read. Ends all (InParens ⊥ []) AnyRest at read.1) → IfOk r (λ read. at ≤ read.1) → IfOk r (λ read. Ends all (IsOver ⊥ []) AnyRest at read.1)
-over_ends all at (Err stop) n h le = tt
-over_ends all at (Ok read) n h le = record { ends = λ others rest same s. h.ends others rest same ((over_there all at n).left others rest (same_less all others at read.1 le same) s) }
-
-pub over_never : (all : List Lexical) (at last : ℕ) → Next all at (mark "(") → Never all AnyRest at (InParens ⊥ []) last → Never all AnyRest at (IsOver ⊥ []) last
-over_never all at last n h = leads_never all AnyRest (IsOver ⊥ []) (InParens ⊥ []) at at last (over_there all at n) h
-
--- No parenthesis stands there, so a name does.
-over_bare : (o : Over) (t : List Lexical) → over_text o ≡ t → ((xs : List Lexical) → t ≡ mark "(" ∷ xs → ⊥) → PastSome (λ x. (n : Name) × (x ≡ word n.word)) (λ u. u ≡ []) t
-over_bare (bare name) t e none = record { first = word name.word; left = []; is = sym e; sort = (name, refl); ends = refl }
-over_bare (names name list) t e none = absurd (none (names_text (name ∷ list) ++ mark ")" ∷ []) (sym e))
-
-bare_there : (all : List Lexical) (at : ℕ) → (Next all at (mark "(") → ⊥) → Leads all AnyRest at (IsOver ⊥ []) at (PastSome (λ x. (n : Name) × (x ≡ word n.word)) (λ u. u ≡ []))
-bare_there all at none = leads_here all AnyRest (IsOver ⊥ []) (PastSome (λ x. (n : Name) × (x ≡ word n.word)) (λ u. u ≡ [])) at (λ t rest p b s. over_bare p.tree t p.spelled (λ xs e. none (s.token (mark "(") (xs ++ rest) (ap (λ ys. ys ++ rest) e))))
-
-pub bare_ends : (all : List Lexical) (at next : ℕ) → (Next all at (mark "(") → ⊥) → next ≡ at + 1 → Ends all (IsOver ⊥ []) AnyRest at next
-bare_ends all at next none e = ends_there all AnyRest (IsOver ⊥ []) at next (some_on all AnyRest (IsOver ⊥ []) (λ u. u ≡ []) (λ x. (n : Name) × (x ≡ word n.word)) at at next (bare_there all at none) e)
-
-pub bare_never : (all : List Lexical) (at last : ℕ) → (Next all at (mark "(") → ⊥) → NoneNext all at (λ x. (n : Name) × (x ≡ word n.word)) last → Never all AnyRest at (IsOver ⊥ []) last
-bare_never all at last none h = some_halts all AnyRest (IsOver ⊥ []) (λ u. u ≡ []) (λ x. (n : Name) × (x ≡ word n.word)) at at last (bare_there all at none) h
-
--- a text reaches on
-pub reaches : {X : Type 0} (all : List Lexical) (at : ℕ) (P : X → List Lexical → Type 0) (r : Result (X × ℕ) Stop) → IfOk r (λ read. Reads all at read.1 (P read.0)) → IfOk r (λ read. at ≤ read.1)
-reaches all at P (Err stop) h = tt
-reaches all at P (Ok read) h = h.on
-
+-- inames begin with a parenthesis, a name and a comma
 pub inames_begin : (all : List Lexical) (at a : ℕ) (w : List ℕ) → is_reserved w ≡ false → a ≡ at + 1 → Next all at (mark "(") → Next all a (word w) → Next all (a + 1) (mark ",") → BeginsInames all at
 inames_begin all at a w free e n k m = record {
   name = record { word = w; free = free };
@@ -179,11 +89,11 @@ inames_same all others at n h same b =
 -- ---- `min` and `max`
 
 pub extreme_open : (which : Extreme) (all : List Lexical) (E : List Lexical → Type 0) (least at : ℕ) (frames : List Frame) → Leads all E at (Shaped least frames (start (extreme_text which))) (at + 1) (Past (mark "(") (ExtremeLeft least frames))
-extreme_open Min all E least at frames = from_shaped all E (Past (mark "(") (ExtremeLeft least frames)) least at 9 frames (λ x left s. s)
-extreme_open Max all E least at frames = from_shaped all E (Past (mark "(") (ExtremeLeft least frames)) least at 10 frames (λ x left s. s)
+extreme_open Min all E least at frames = from_shaped (λ x left s. s)
+extreme_open Max all E least at frames = from_shaped (λ x left s. s)
 
 pub extreme_start : (which : Extreme) (all : List Lexical) (E : List Lexical → Type 0) (least at a : ℕ) (frames : List Frame) → a ≡ (at + 1) + 1 → Leads all E at (Shaped least frames (start (extreme_text which))) a (ExtremeLeft least frames)
-extreme_start which all E least at a frames e = past_on all E (Shaped least frames (start (extreme_text which))) (ExtremeLeft least frames) at (at + 1) a (mark "(") (extreme_open which all E least at frames) e
+extreme_start which all E least at a frames e = past_on (extreme_open which all E least at frames) e
 
 -- no inames stand there
 operand_left : (all : List Lexical) (which : Extreme) (least a : ℕ) (frames : List Frame) (t : List Lexical) → (BeginsInames all a → ⊥) → ExtremeLeft least frames t → OperandLeft all least (frame.First which a ∷ frames) a t
@@ -197,11 +107,11 @@ operand_left all which least a frames t none (over_names j) = first_iname (recor
 
 pub extreme_first : (which : Extreme) (lexemes : List Lexeme) (old new : Partial) (at a : ℕ) (r : Result turn.Turn Stop) → IfOk r (λ t. OpensPart old (frame.First which a) a new t) → a ≡ (at + 1) + 1 → (BeginsInames (texts lexemes) a → ⊥)
     → IfOk r (λ t. GoesShaped lexemes (start (extreme_text which)) old at new t)
-extreme_first which lexemes old new at a r o e none = answers_as (λ t. OpensPart old (frame.First which a) a new t) (λ t. GoesShaped lexemes (start (extreme_text which)) old at new t) r o (λ t k least some within.
+extreme_first which lexemes old new at a r o e none = answers_as r o (λ t k least some within.
     opens_left (texts lexemes) least at a (Shaped least old.frames (start (extreme_text which))) old new (frame.First which a) t k
-    (leads_on (texts lexemes) (Behind (ends_level least)) (Shaped least old.frames (start (extreme_text which))) (ExtremeLeft least old.frames) (OperandLeft (texts lexemes) least (frame.First which a ∷ old.frames) a) at a a
-    (extreme_start which (texts lexemes) (Behind (ends_level least)) least at a old.frames e)
-    (leads_as (texts lexemes) (Behind (ends_level least)) (ExtremeLeft least old.frames) (OperandLeft (texts lexemes) least (frame.First which a ∷ old.frames) a) a (λ u h. operand_left (texts lexemes) which least a old.frames u none h))))
+    (leads_on
+    (extreme_start which (texts lexemes) (Looser least) least at a old.frames e)
+    (leads_as (λ u h. operand_left (texts lexemes) which least a old.frames u none h))))
 
 -- inames stand there, so no expression does
 inames_joined : (least : ℕ) (frames : List Frame) (t rest ys : List Lexical) (n : Name) → t ++ rest ≡ mark "(" ∷ word n.word ∷ mark "," ∷ ys → ExtremeLeft least frames t → Joins (AreInames ⊥ []) (WantsBody least frames) t
@@ -211,7 +121,7 @@ inames_joined least frames t rest ys n e (over_names j) = record { front = j.fro
 
 pub extreme_body : (which : Extreme) (all : List Lexical) (E : List Lexical → Type 0) (least at a b : ℕ) (frames : List Frame) → a ≡ (at + 1) + 1 → BeginsInames all a → a + 2 ≤ b → Ends all (AreInames ⊥ []) AnyRest a b
     → Leads all E at (Shaped least frames (start (extreme_text which))) b (WantsBody least frames)
-extreme_body which all E least at a b frames e begun le h = leads_on all E (Shaped least frames (start (extreme_text which))) (ExtremeLeft least frames) (WantsBody least frames) at a b (extreme_start which all E least at a frames e) (record {
+extreme_body which all E least at a b frames e begun le h = leads_on (extreme_start which all E least at a frames e) (record {
   on = omega (arith, le);
   left = λ others rest same s.
       let j = inames_joined least frames s.text rest (drop (((a + 1) + 1) + 1) others) begun.name (sym s.here ∙ inames_same all others a b le same begun) s.is in
@@ -220,7 +130,7 @@ extreme_body which all E least at a b frames e begun le h = leads_on all E (Shap
 
 pub extreme_never : (which : Extreme) (all : List Lexical) (E : List Lexical → Type 0) (least at a last : ℕ) (frames : List Frame) → a ≡ (at + 1) + 1 → BeginsInames all a → a + 2 ≤ last → Never all AnyRest a (AreInames ⊥ []) last
     → Never all E at (Shaped least frames (start (extreme_text which))) last
-extreme_never which all E least at a last frames e begun le h = leads_never all E (Shaped least frames (start (extreme_text which))) (ExtremeLeft least frames) at a last (extreme_start which all E least at a frames e) (record {
+extreme_never which all E least at a last frames e begun le h = leads_never (extreme_start which all E least at a frames e) (record {
   on = h.on;
   none = λ others rest same s.
       let j = inames_joined least frames s.text rest (drop (((a + 1) + 1) + 1) others) begun.name (sym s.here ∙ inames_same all others a last le same begun) s.is in

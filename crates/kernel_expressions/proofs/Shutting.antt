@@ -19,44 +19,44 @@ use Rattle.kernel_expressions.specs.declared.frame.Bracket.TheVariants as bracke
 use Rattle.kernel_expressions.specs.Frames.{closing, inner_level, made_level}
 use Rattle.kernel_expressions.specs.Texts.{texts}
 use Rattle.kernel_expressions.specs.Reads.{Next}
-use Rattle.kernel_expressions.specs.Settled.{Behind, NoneNext, ends_level, is_mark}
+use Rattle.kernel_expressions.specs.Settled.{NoneNext, is_mark}
 use Rattle.kernel_expressions.specs.Tails.{IsText, more_places, AreSums, Closing, ClosesAll, IsWanted}
-use Rattle.kernel_expressions.specs.Follows.{Leads, Past, wanted, OperandLeft, TurnLeft, place_of, WantsBody, Shuts, Halted, GoesOut, HaltsOut}
+use Rattle.kernel_expressions.specs.Follows.{Looser, Leads, Past, wanted, OperandLeft, TurnLeft, place_of, WantsBody, Shuts, Halted, GoesOut, HaltsOut}
 use Rattle.kernel_expressions.proofs.Agreeing.{Sees, one_token, leads_on, leads_never, leads_as, leads_here, never_here, leads_past, never_past, answers_as}
 
 -- where such a part is shut by a sign and what is left, that sign stands there
-pub shut_never : (all : List Lexical) (at last : ℕ) (f : Frame) (frames : List Frame) (x : Lexical) (Q : ℕ → List Lexical → Type 0) → NoneNext all at (λ y. y ≡ x) last
+pub shut_never : {all : List Lexical} {at last : ℕ} {f : Frame} {frames : List Frame} {x : Lexical} {Q : ℕ → List Lexical → Type 0} → NoneNext all at (λ y. y ≡ x) last
     → ((least : ℕ) (t : List Lexical) → Shuts least f frames t → Past x (Q least) t) → (least : ℕ) → Halted all least at (Shuts least f frames) last
-shut_never all at last f frames x Q h past least some within = leads_never all (Behind (ends_level least)) (Shuts least f frames) (Past x (Q least)) at at last
-    (leads_as all (Behind (ends_level least)) (Shuts least f frames) (Past x (Q least)) at (past least)) (never_past all (Behind (ends_level least)) (Q least) at last x h.same (λ n. h.none x n refl))
+shut_never {all} {at} {last} {f} {frames} {x} {Q} h past least some within = leads_never
+    (leads_as (past least)) (never_past h.same (λ n. h.none x n refl))
 
-pub shut_goes : (all : List Lexical) (least at next : ℕ) (f : Frame) (frames : List Frame) (x : Lexical) (Q : List Lexical → Type 0) → next ≡ at + 1
-    → ((t : List Lexical) → Shuts least f frames t → Past x Q t) → Leads all (Behind (ends_level least)) at (Shuts least f frames) next Q
-shut_goes all least at next f frames x Q n past = leads_on all (Behind (ends_level least)) (Shuts least f frames) (Past x Q) Q at at next
-    (leads_as all (Behind (ends_level least)) (Shuts least f frames) (Past x Q) at past) (leads_past all (Behind (ends_level least)) Q at next x n)
+pub shut_goes : {all : List Lexical} {least at next : ℕ} {f : Frame} {frames : List Frame} {x : Lexical} {Q : List Lexical → Type 0} → next ≡ at + 1
+    → ((t : List Lexical) → Shuts least f frames t → Past x Q t) → Leads all (Looser least) at (Shuts least f frames) next Q
+shut_goes {all} {least} {at} {next} {f} {frames} {x} {Q} n past = leads_on
+    (leads_as past) (leads_past n)
 
 -- an operand is behind, and nothing is opened
-pub shut_behind : (all : List Lexical) (least at next : ℕ) (f : Frame) (frames new : List Frame) (x : Lexical) → new ≡ frames → next ≡ at + 1 → ((t : List Lexical) → Shuts least f frames t → Past x (ClosesAll least frames 11) t)
-    → Leads all (Behind (ends_level least)) at (Shuts least f frames) next (ClosesAll least new 11)
-shut_behind all least at next f frames new x same n past = subst (λ (fs : List Frame). Leads all (Behind (ends_level least)) at (Shuts least f frames) next (ClosesAll least fs 11)) (sym same) (shut_goes all least at next f frames x (ClosesAll least frames 11) n past)
+pub shut_behind : {all : List Lexical} {least at next : ℕ} {f : Frame} {frames new : List Frame} {x : Lexical} → new ≡ frames → next ≡ at + 1 → ((t : List Lexical) → Shuts least f frames t → Past x (ClosesAll least frames 11) t)
+    → Leads all (Looser least) at (Shuts least f frames) next (ClosesAll least new 11)
+shut_behind {all} {least} {at} {next} {f} {frames} {new} {x} same n past = subst (λ (fs : List Frame). Leads all (Looser least) at (Shuts least f frames) next (ClosesAll least fs 11)) (sym same) (shut_goes n past)
 
 -- a part is opened
-pub opens_left : (all : List Lexical) (least at next : ℕ) (P : List Lexical → Type 0) (old new : Partial) (g : Frame) (t : turn.Turn) → OpensPart old g next new t → Leads all (Behind (ends_level least)) at P next (OperandLeft all least (g ∷ old.frames) next)
-    → Leads all (Behind (ends_level least)) at P (place_of t) (TurnLeft all least new.frames t)
-opens_left all least at next P old new g t o h = subst (λ (u : turn.Turn). Leads all (Behind (ends_level least)) at P (place_of u) (TurnLeft all least new.frames u)) (sym o.next_is)
-    (subst (λ (fs : List Frame). Leads all (Behind (ends_level least)) at P next (OperandLeft all least fs next)) (sym o.frames) h)
+pub opens_left : (all : List Lexical) (least at next : ℕ) (P : List Lexical → Type 0) (old new : Partial) (g : Frame) (t : turn.Turn) → OpensPart old g next new t → Leads all (Looser least) at P next (OperandLeft all least (g ∷ old.frames) next)
+    → Leads all (Looser least) at P (place_of t) (TurnLeft all least new.frames t)
+opens_left all least at next P old new g t o h = subst (λ (u : turn.Turn). Leads all (Looser least) at P (place_of u) (TurnLeft all least new.frames u)) (sym o.next_is)
+    (subst (λ (fs : List Frame). Leads all (Looser least) at P next (OperandLeft all least fs next)) (sym o.frames) h)
 
 -- an operand is wanted in a part that is opened
-pub opens_wanted : (all : List Lexical) (least at next : ℕ) (P : List Lexical → Type 0) (old new : Partial) (g : Frame) (t : turn.Turn) → OpensPart old g next new t → Leads all (Behind (ends_level least)) at P next (IsWanted least (g ∷ old.frames))
-    → Leads all (Behind (ends_level least)) at P (place_of t) (TurnLeft all least new.frames t)
-opens_wanted all least at next P old new g t o h = opens_left all least at next P old new g t o (leads_on all (Behind (ends_level least)) P (IsWanted least (g ∷ old.frames)) (OperandLeft all least (g ∷ old.frames) next) at next next h
-    (leads_as all (Behind (ends_level least)) (IsWanted least (g ∷ old.frames)) (OperandLeft all least (g ∷ old.frames) next) next (λ u w. wanted w)))
+pub opens_wanted : (all : List Lexical) (least at next : ℕ) (P : List Lexical → Type 0) (old new : Partial) (g : Frame) (t : turn.Turn) → OpensPart old g next new t → Leads all (Looser least) at P next (IsWanted least (g ∷ old.frames))
+    → Leads all (Looser least) at P (place_of t) (TurnLeft all least new.frames t)
+opens_wanted all least at next P old new g t o h = opens_left all least at next P old new g t o (leads_on h
+    (leads_as (λ u w. wanted w)))
 
 pub shut_opens : (lexemes : List Lexeme) (old mid new : Partial) (f g : Frame) (x : Lexical) (at next : ℕ) (r : Result turn.Turn Stop) → IfOk r (λ t. OpensPart mid g next new t) → mid.frames ≡ old.frames → next ≡ at + 1
     → ((least : ℕ) (t : List Lexical) → Shuts least f old.frames t → Past x (IsWanted least (g ∷ old.frames)) t) → IfOk r (λ t. GoesOut lexemes f old at new t)
-shut_opens lexemes old mid new f g x at next r o same n past = answers_as (λ t. OpensPart mid g next new t) (λ t. GoesOut lexemes f old at new t) r o (λ t k least some within.
+shut_opens lexemes old mid new f g x at next r o same n past = answers_as r o (λ t k least some within.
     opens_wanted (texts lexemes) least at next (Shuts least f old.frames) mid new g t k
-    (shut_goes (texts lexemes) least at next f old.frames x (IsWanted least (g ∷ mid.frames)) n (λ u h. subst (λ (fs : List Frame). Past x (IsWanted least (g ∷ fs)) u) (sym same) (past least u h))))
+    (shut_goes n (λ u h. subst (λ (fs : List Frame). Past x (IsWanted least (g ∷ fs)) u) (sym same) (past least u h))))
 
 -- the sign that shuts a part, and what it leaves
 pub group_past : (least : ℕ) (frames : List Frame) (t : List Lexical) → Shuts least frame.Group frames t → Past (mark ")") (ClosesAll least frames 11) t
@@ -123,25 +123,25 @@ right_one all at x y P Q t rest (inr h) sees none = h
 -- a comma stands there, and a place behind it
 pub place_on : (lexemes : List Lexeme) (old new : Partial) (name : List ℕ) (b : bracket.Bracket) (before count at next : ℕ) (r : Result turn.Turn Stop) → IfOk r (λ t. OpensPart old (frame.Places name b count) next new t) → next ≡ at + 1
     → Next (texts lexemes) at (mark ",") → IfOk r (λ t. GoesOut lexemes (frame.Places name b before) old at new t)
-place_on lexemes old new name b before count at next r o n comma = answers_as (λ t. OpensPart old (frame.Places name b count) next new t) (λ t. GoesOut lexemes (frame.Places name b before) old at new t) r o (λ t k least some within.
+place_on lexemes old new name b before count at next r o n comma = answers_as r o (λ t k least some within.
     opens_wanted (texts lexemes) least at next (Shuts least (frame.Places name b before) old.frames) old new (frame.Places name b count) t k
-    (leads_on (texts lexemes) (Behind (ends_level least)) (Shuts least (frame.Places name b before) old.frames) (Past (mark ",") (IsWanted least (frame.Places name b count ∷ old.frames))) (IsWanted least (frame.Places name b count ∷ old.frames)) at at next
-    (leads_here (texts lexemes) (Behind (ends_level least)) (Shuts least (frame.Places name b before) old.frames) (Past (mark ",") (IsWanted least (frame.Places name b count ∷ old.frames))) at (λ u rest p e sees.
+    (leads_on
+    (leads_here (λ u rest p e sees.
     let c = right_one (texts lexemes) at (closing b) (mark ",") (ClosesAll least old.frames 11) (WantsPlace b least old.frames) u rest (places_case name b before least old.frames u p) sees (λ m. no_comma b (one_token (texts lexemes) at (closing b) (mark ",") m comma)) in
     record { left = c.left; is = c.is; ends = c.ends name count }))
-    (leads_past (texts lexemes) (Behind (ends_level least)) (IsWanted least (frame.Places name b count ∷ old.frames)) at next (mark ",") n)))
+    (leads_past n)))
 
 -- no comma stands there, so the places are closed
 pub place_ended : (lexemes : List Lexeme) (name : List ℕ) (b c : bracket.Bracket) (before at next least : ℕ) (frames new : List Frame) → b ≡ c → new ≡ frames → next ≡ at + 1 → (Next (texts lexemes) at (mark ",") → ⊥)
-    → Leads (texts lexemes) (Behind (ends_level least)) at (Shuts least (frame.Places name b before) frames) next (ClosesAll least new 11)
-place_ended lexemes name b c before at next least frames new e same n none = subst (λ (fs : List Frame). Leads (texts lexemes) (Behind (ends_level least)) at (Shuts least (frame.Places name b before) frames) next (ClosesAll least fs 11)) (sym same)
-    (leads_on (texts lexemes) (Behind (ends_level least)) (Shuts least (frame.Places name b before) frames) (Past (closing b) (ClosesAll least frames 11)) (ClosesAll least frames 11) at at next
-    (leads_here (texts lexemes) (Behind (ends_level least)) (Shuts least (frame.Places name b before) frames) (Past (closing b) (ClosesAll least frames 11)) at (λ u rest p e sees.
+    → Leads (texts lexemes) (Looser least) at (Shuts least (frame.Places name b before) frames) next (ClosesAll least new 11)
+place_ended lexemes name b c before at next least frames new e same n none = subst (λ (fs : List Frame). Leads (texts lexemes) (Looser least) at (Shuts least (frame.Places name b before) frames) next (ClosesAll least fs 11)) (sym same)
+    (leads_on
+    (leads_here (λ u rest p e sees.
     left_one (texts lexemes) at (closing b) (mark ",") (ClosesAll least frames 11) (WantsPlace b least frames) u rest (places_case name b before least frames u p) sees none))
-    (leads_past (texts lexemes) (Behind (ends_level least)) (ClosesAll least frames 11) at next (closing b) n))
+    (leads_past n))
 
 -- neither stands there
 pub place_never : (lexemes : List Lexeme) (old : Partial) (name : List ℕ) (b c : bracket.Bracket) (before at last : ℕ) → b ≡ c → (Next (texts lexemes) at (mark ",") → ⊥) → NoneNext (texts lexemes) at (λ x. x ≡ closing c) last → HaltsOut lexemes (frame.Places name b before) old at last
-place_never lexemes old name b c before at last e none h least some within = never_here (texts lexemes) (Behind (ends_level least)) (Shuts least (frame.Places name b before) old.frames) at last h.same (λ u rest p q sees.
+place_never lexemes old name b c before at last e none h least some within = never_here h.same (λ u rest p q sees.
     let k = left_one (texts lexemes) at (closing b) (mark ",") (ClosesAll least old.frames 11) (WantsPlace b least old.frames) u rest (places_case name b before least old.frames u p) sees none in
     h.none (closing b) (sees.token (closing b) (k.left ++ rest) (ap (λ xs. xs ++ rest) k.is)) (ap closing e))

@@ -181,6 +181,10 @@ pub record Stopped (least : ℕ) (frames : List Frame) (level : ℕ) (text : Lis
 
 -- ---- turns
 
+-- What stands behind an expression of the level does not go on with it.
+abbrev pub Looser : ℕ → List Lexical → Type 0
+Looser least = Behind (ends_level least)
+
 -- the place of the turn
 abbrev pub place_of : turn.Turn → ℕ
 place_of (Operand at) = at
@@ -195,11 +199,11 @@ TurnLeft all least frames (End at) = λ text. text ≡ []
 
 -- From such a text at the place the turn goes on with what is left.
 abbrev pub Goes : List Lexical → (least at : ℕ) → (List Lexical → Type 0) → List Frame → turn.Turn → Type 0
-Goes all least at P frames next = 0 < least → least ≤ 11 → Leads all (Behind (ends_level least)) at P (place_of next) (TurnLeft all least frames next)
+Goes all least at P frames next = 0 < least → least ≤ 11 → Leads all (Looser least) at P (place_of next) (TurnLeft all least frames next)
 
 -- No such text stands at the place, by the tokens up to the last.
 abbrev pub Halted : List Lexical → (least at : ℕ) → (List Lexical → Type 0) → (last : ℕ) → Type 0
-Halted all least at P last = 0 < least → least ≤ 11 → Never all (Behind (ends_level least)) at P last
+Halted all least at P last = 0 < least → least ≤ 11 → Never all (Looser least) at P last
 
 -- Behind an operand of the frame, which is no longer open, the turn goes on with what is left.
 abbrev pub GoesOut : List Lexeme → Frame → Partial → (at : ℕ) → Partial → turn.Turn → Type 0

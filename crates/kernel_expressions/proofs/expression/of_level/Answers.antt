@@ -33,10 +33,10 @@ turns-preserved c = (
 )
 
 pub returns-in_err-turn-in-Operand-clause-none : goal.returns-in_err-turn-in-Operand-clause-none
-returns-in_err-turn-in-Operand-clause-none c = λ some. passed_on _ _ _ _ c.from_residual.ensures.1 c.in_err-turn-in-Operand.ensures.none (λ last h. turn_halts _ _ _ last _ _ _ (Operand c.in-Operand.at) c.turns.invariant.1 c.in-Operand.is h some c.requires)
+returns-in_err-turn-in-Operand-clause-none c = λ some. passed_on _ _ c.from_residual.ensures.1 c.in_err-turn-in-Operand.ensures.none (λ last h. turn_halts _ _ _ last _ _ _ (Operand c.in-Operand.at) c.turns.invariant.1 c.in-Operand.is h some c.requires)
 
 pub returns-in_err-turn-in-Operator-clause-none : goal.returns-in_err-turn-in-Operator-clause-none
-returns-in_err-turn-in-Operator-clause-none c = λ some. passed_on _ _ _ _ c.from_residual-in_err-turn-in-Operator.ensures.1 c.in_err-turn-in-Operator.ensures.none (λ last h. turn_halts _ _ _ last _ _ _ (Operator c.in-Operator.at c.in-Operator.level) c.turns.invariant.1 c.in-Operator.is h some c.requires)
+returns-in_err-turn-in-Operator-clause-none c = λ some. passed_on _ _ c.from_residual-in_err-turn-in-Operator.ensures.1 c.in_err-turn-in-Operator.ensures.none (λ last h. turn_halts _ _ _ last _ _ _ (Operator c.in-Operator.at c.in-Operator.level) c.turns.invariant.1 c.in-Operator.is h some c.requires)
 
 pub returns-in-End-clause-ends : goal.returns-in-End-clause-ends
 returns-in-End-clause-ends c = λ some. turn_ends _ _ _ _ _ _ _ c.turns.invariant.1 c.in-End.is some c.requires

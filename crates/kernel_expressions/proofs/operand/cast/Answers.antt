@@ -20,16 +20,16 @@ returns-in_err-at-2-clause-begun c = refused _ _ _ _ _ _ _ (search rules) c.in_e
     (cast_three _ _ _ _ _ c.requires c.in_ok-at.ensures.read.0 c.in_ok-at.ensures.read.1 c.in_ok-kind.ensures.read.0 c.in_ok-kind.ensures.read.1)
 
 pub returns-in_err-at-clause-none : goal.returns-in_err-at-clause-none
-returns-in_err-at-clause-none c = passed_on _ _ _ _ c.from_residual.ensures.1 c.in_err-at.ensures.stops (λ last h least some within. past_halts _ _ _ _ _ _ _ _ (cast_open _ _ least _ _) h)
+returns-in_err-at-clause-none c = passed_on _ _ c.from_residual.ensures.1 c.in_err-at.ensures.stops (λ last h least some within. past_halts (cast_open) h)
 
 pub returns-in_err-kind-clause-none : goal.returns-in_err-kind-clause-none
-returns-in_err-kind-clause-none c = passed_on _ _ _ _ c.from_residual-in_err-kind.ensures.1 c.in_err-kind.ensures.stops (λ last h least some within. some_halts _ _ _ _ _ _ _ _
-    (past_on _ _ _ _ _ _ _ _ (cast_open _ _ least _ _) c.in_ok-at.ensures.read.0) h)
+returns-in_err-kind-clause-none c = passed_on _ _ c.from_residual-in_err-kind.ensures.1 c.in_err-kind.ensures.stops (λ last h least some within. some_halts
+    (past_on (cast_open) c.in_ok-at.ensures.read.0) h)
 
 pub returns-in_err-at-2-clause-none : goal.returns-in_err-at-2-clause-none
-returns-in_err-at-2-clause-none c = passed_on _ _ _ _ c.from_residual-in_err-at-2.ensures.1 c.in_err-at-2.ensures.stops (λ last h least some within. past_halts _ _ _ _ _ _ _ _
-    (some_on _ _ _ _ _ _ _ _ (past_on _ _ _ _ _ _ _ _ (cast_open _ _ least _ _) c.in_ok-at.ensures.read.0) c.in_ok-kind.ensures.read.0) h)
+returns-in_err-at-2-clause-none c = passed_on _ _ c.from_residual-in_err-at-2.ensures.1 c.in_err-at-2.ensures.stops (λ last h least some within. past_halts
+    (some_on (past_on (cast_open) c.in_ok-at.ensures.read.0) c.in_ok-kind.ensures.read.0) h)
 
 pub returns-clause-goes : goal.returns-clause-goes
-returns-clause-goes c = opens_goes _ _ c.args.part.now c.opened.new.part _ _ _ _ c.opened.ensures.opens (λ least. body_on _ _ _ least _ _ _ _
-    (past_on _ _ _ _ _ _ _ _ (some_on _ _ _ _ _ _ _ _ (past_on _ _ _ _ _ _ _ _ (cast_open _ _ least _ _) c.in_ok-at.ensures.read.0) c.in_ok-kind.ensures.read.0) c.in_ok-at-2.ensures.read.0))
+returns-clause-goes c = opens_goes _ _ c.args.part.now c.opened.new.part _ _ _ _ c.opened.ensures.opens (λ least. body_on
+    (past_on (some_on (past_on (cast_open) c.in_ok-at.ensures.read.0) c.in_ok-kind.ensures.read.0) c.in_ok-at-2.ensures.read.0))

@@ -13,7 +13,7 @@ pub returns-in_err-at-clause-begun : goal.returns-in_err-at-clause-begun
 returns-in_err-at-clause-begun c = refused _ _ _ _ _ _ _ (search rules) c.in_err-at.ensures.stops (choice_one _ _ c.requires)
 
 pub returns-in_err-at-clause-none : goal.returns-in_err-at-clause-none
-returns-in_err-at-clause-none c = passed_on _ _ _ _ c.from_residual.ensures.1 c.in_err-at.ensures.stops (λ last h least some within. past_halts _ _ _ _ _ _ _ _ (choice_open _ _ least _ _) h)
+returns-in_err-at-clause-none c = passed_on _ _ c.from_residual.ensures.1 c.in_err-at.ensures.stops (λ last h least some within. past_halts (choice_open) h)
 
 pub returns-clause-goes : goal.returns-clause-goes
-returns-clause-goes c = opens_goes _ _ c.args.part.now c.opened.new.part _ _ _ _ c.opened.ensures.opens (λ least. past_on _ _ _ _ _ _ _ _ (choice_open _ _ least _ _) c.in_ok-at.ensures.read.0)
+returns-clause-goes c = opens_goes _ _ c.args.part.now c.opened.new.part _ _ _ _ c.opened.ensures.opens (λ least. past_on (choice_open) c.in_ok-at.ensures.read.0)

@@ -32,16 +32,16 @@ pub returns-in_err-at-2-clause-begun : goal.returns-in_err-at-2-clause-begun
 returns-in_err-at-2-clause-begun c = refused _ _ _ _ _ _ _ (search rules) c.in_err-at-2.ensures.stops (fold_open _ _ _ _ _ _ c.args.is_sum c.requires c.in_ok-at.ensures.read.0 c.in_ok-at.ensures.read.1 c.in_ok-inames.ensures.read)
 
 pub returns-in_err-at-clause-none : goal.returns-in_err-at-clause-none
-returns-in_err-at-clause-none c = passed_on _ _ _ _ c.from_residual.ensures.1 c.in_err-at.ensures.stops (λ last h least some within. past_halts _ _ _ _ _ _ _ _ (fold_shape c.args.is_sum _ _ least _ _) h)
+returns-in_err-at-clause-none c = passed_on _ _ c.from_residual.ensures.1 c.in_err-at.ensures.stops (λ last h least some within. past_halts (fold_shape c.args.is_sum _ _ least _ _) h)
 
 pub returns-in_err-inames-clause-none : goal.returns-in_err-inames-clause-none
-returns-in_err-inames-clause-none c = passed_on _ _ _ _ c.from_residual-in_err-inames.ensures.1 (over_never _ _ c.in_err-inames.field-0.0 (c.in_err-inames.ensures.stops (omega (arith, c.in_ok-at.ensures.read.0, c.in_ok-at.ensures.read.1.within)))) (λ last h least some within. joins_halts _ _ _ _ _ _ _ _ _
-    (past_on _ _ _ _ _ _ _ _ (fold_shape c.args.is_sum _ _ least _ _) c.in_ok-at.ensures.read.0) h (any_rest _))
+returns-in_err-inames-clause-none c = passed_on _ _ c.from_residual-in_err-inames.ensures.1 (over_never _ _ c.in_err-inames.field-0.0 (c.in_err-inames.ensures.stops (omega (arith, c.in_ok-at.ensures.read.0, c.in_ok-at.ensures.read.1.within)))) (λ last h least some within. joins_halts
+    (past_on (fold_shape c.args.is_sum _ _ least _ _) c.in_ok-at.ensures.read.0) h (any_rest _))
 
 pub returns-in_err-at-2-clause-none : goal.returns-in_err-at-2-clause-none
-returns-in_err-at-2-clause-none c = passed_on _ _ _ _ c.from_residual-in_err-at-2.ensures.1 c.in_err-at-2.ensures.stops (λ last h least some within. past_halts _ _ _ _ _ _ _ _
-    (joins_on _ _ _ _ _ _ _ _ _ (past_on _ _ _ _ _ _ _ _ (fold_shape c.args.is_sum _ _ least _ _) c.in_ok-at.ensures.read.0) c.in_ok-inames.ensures.read.on (over_ends _ _ _ c.in_ok-inames.ensures.ends) (any_rest _)) h)
+returns-in_err-at-2-clause-none c = passed_on _ _ c.from_residual-in_err-at-2.ensures.1 c.in_err-at-2.ensures.stops (λ last h least some within. past_halts
+    (joins_on (past_on (fold_shape c.args.is_sum _ _ least _ _) c.in_ok-at.ensures.read.0) c.in_ok-inames.ensures.read.on (over_ends _ _ _ c.in_ok-inames.ensures.ends) (any_rest _)) h)
 
 pub returns-clause-goes : goal.returns-clause-goes
-returns-clause-goes c = opens_goes _ _ c.args.part.now c.opened.new.part _ _ _ _ c.opened.ensures.opens (λ least. body_on _ _ _ least _ _ _ _
-    (past_on _ _ _ _ _ _ _ _ (joins_on _ _ _ _ _ _ _ _ _ (past_on _ _ _ _ _ _ _ _ (fold_shape c.args.is_sum _ _ least _ _) c.in_ok-at.ensures.read.0) c.in_ok-inames.ensures.read.on (over_ends _ _ _ c.in_ok-inames.ensures.ends) (any_rest _)) c.in_ok-at-2.ensures.read.0))
+returns-clause-goes c = opens_goes _ _ c.args.part.now c.opened.new.part _ _ _ _ c.opened.ensures.opens (λ least. body_on
+    (past_on (joins_on (past_on (fold_shape c.args.is_sum _ _ least _ _) c.in_ok-at.ensures.read.0) c.in_ok-inames.ensures.read.on (over_ends _ _ _ c.in_ok-inames.ensures.ends) (any_rest _)) c.in_ok-at-2.ensures.read.0))

@@ -28,7 +28,7 @@ returns-in_err-sign-clause-stops c = λ within. handed_on _ _ _ _ c.from_residua
     (λ last h. same_stops parens_same (leads_stops (token_leads c.in_ok-at.ensures.read.0 c.in_ok-at.ensures.read.1) (not_closed (mark ")") (whole (list_text c.in_ok-names.ensures.read) c.in_ok-names.ensures.ends) (λ rest. refl) h)))
 
 pub returns-in_err-names-clause-beyond : goal.returns-in_err-names-clause-beyond
-returns-in_err-names-clause-beyond c = λ b. passed_on _ _ _ _ c.from_residual-in_err-names.ensures.1 (c.in_err-names.ensures.stops (omega (arith, c.in_ok-at.ensures.read.0, c.in_ok-at.ensures.read.1.within))) (λ last h. past_name _ _ _ last c.in_ok-at.ensures.read.0 b h)
+returns-in_err-names-clause-beyond c = λ b. passed_on _ _ c.from_residual-in_err-names.ensures.1 (c.in_err-names.ensures.stops (omega (arith, c.in_ok-at.ensures.read.0, c.in_ok-at.ensures.read.1.within))) (λ last h. past_name _ _ _ last c.in_ok-at.ensures.read.0 b h)
 
 pub returns-in_err-sign-clause-beyond : goal.returns-in_err-sign-clause-beyond
-returns-in_err-sign-clause-beyond c = λ b. passed_on _ _ _ _ c.from_residual-in_err-sign.ensures.1 c.in_err-sign.ensures.stops (λ last h. omega (arith, h.same, c.in_ok-at.ensures.read.0, names_long _ _ _ _ _ c.in_ok-names.ensures.read))
+returns-in_err-sign-clause-beyond c = λ b. passed_on _ _ c.from_residual-in_err-sign.ensures.1 c.in_err-sign.ensures.stops (λ last h. omega (arith, h.same, c.in_ok-at.ensures.read.0, names_long _ _ _ _ _ c.in_ok-names.ensures.read))

@@ -21,4 +21,4 @@ returns-in_err-sign-clause-stops c = λ within. handed_on _ _ _ _ c.from_residua
     (λ last h. same_stops inames_same (not_closed (mark ",") (whole (parens_read c.in_ok-names.ensures.read) c.in_ok-names.ensures.ends) (λ rest. tt) h))
 
 pub returns-in_err-sign-clause-beyond : goal.returns-in_err-sign-clause-beyond
-returns-in_err-sign-clause-beyond c = λ b. passed_on _ _ _ _ c.from_residual-in_err-sign.ensures.1 c.in_err-sign.ensures.stops (λ last h. omega (arith, h.same, parens_long _ _ _ _ _ c.in_ok-names.ensures.read))
+returns-in_err-sign-clause-beyond c = λ b. passed_on _ _ c.from_residual-in_err-sign.ensures.1 c.in_err-sign.ensures.stops (λ last h. omega (arith, h.same, parens_long _ _ _ _ _ c.in_ok-names.ensures.read))

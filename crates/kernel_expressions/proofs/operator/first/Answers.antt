@@ -18,7 +18,7 @@ pub returns-in-Other-clause-moves : goal.returns-in-Other-clause-moves
 returns-in-Other-clause-moves c = first_kept _ c.args.part.now c.opened-in-Other.new.part _ _ _ _ _ c.opened-in-Other.ensures.opens c.in_ok-next.ensures.read.0 c.in_ok-next.ensures.read.1 c.in-Other.ensures
 
 pub returns-in_err-next-clause-none : goal.returns-in_err-next-clause-none
-returns-in_err-next-clause-none c = passed_on _ _ _ _ c.from_residual.ensures.1 c.in_err-next.ensures.stops (λ last h. shut_never _ _ _ _ _ (mark ",") _ h (λ least t. first_past _ _ least _ t))
+returns-in_err-next-clause-none c = passed_on _ _ c.from_residual.ensures.1 c.in_err-next.ensures.stops (λ last h. shut_never h (λ least t. first_past _ _ least _ t))
 
 pub returns-in_ok-name-in-Lone-clause-goes : goal.returns-in_ok-name-in-Lone-clause-goes
 returns-in_ok-name-in-Lone-clause-goes c = shut_opens _ c.args.part.now c.forget_last.new.self c.opened.new.part _ _ (mark ",") _ _ _ c.opened.ensures.opens c.forget_last.ensures.frames c.in_ok-next.ensures.read.0 (λ least t h. with_step _ _ _ _ t (first_past _ _ least _ t h))

@@ -1,7 +1,6 @@
 use Rattle.std.proofs.Common.{[], refl, sym}
 use Rattle.std.proofs.lemmas.List.{append-nil}
 use Rattle.kernel_expressions.proofs.Moving.{closes, body_closes}
-use Rattle.kernel_grammar.specs.Lexicals.{mark}
 use Rattle.kernel_expressions.proofs.Agreeing.{passed_on}
 use Rattle.kernel_expressions.proofs.Shutting.{group_past, shut_goes, shut_never}
 use Rattle.kernel_expressions.proofs.operator.group.Goals as goal
@@ -11,7 +10,7 @@ returns-clause-moves c = λ least level from within h. closes _ _ _ _ _ _ _ [] _
     (λ made steps t u short part tree tight. body_closes _ level [] made steps t u part tree tight) h
 
 pub returns-in_err-at-clause-none : goal.returns-in_err-at-clause-none
-returns-in_err-at-clause-none c = passed_on _ _ _ _ c.from_residual.ensures.1 c.in_err-at.ensures.stops (λ last h. shut_never _ _ _ _ _ (mark ")") _ h (λ least t. group_past least _ t))
+returns-in_err-at-clause-none c = passed_on _ _ c.from_residual.ensures.1 c.in_err-at.ensures.stops (λ last h. shut_never h (λ least t. group_past least _ t))
 
 pub returns-clause-goes : goal.returns-clause-goes
-returns-clause-goes c = λ least some within. shut_goes _ least _ _ _ _ (mark ")") _ c.in_ok-at.ensures.read.0 (group_past least _)
+returns-clause-goes c = λ least some within. shut_goes c.in_ok-at.ensures.read.0 (group_past least _)

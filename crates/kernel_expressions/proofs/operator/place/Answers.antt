@@ -23,10 +23,10 @@ pub returns-in_ok-step-in-Index-clause-goes : goal.returns-in_ok-step-in-Index-c
 returns-in_ok-step-in-Index-clause-goes c = λ least some within. place_ended _ _ _ Index _ _ _ least _ _ c.in-Index.is c.in_ok-step-in-Index.ensures.frames c.in_ok-at-in-Index.ensures.read.0 c.in_default.ensures
 
 pub returns-in_err-at-in-Index-clause-none : goal.returns-in_err-at-in-Index-clause-none
-returns-in_err-at-in-Index-clause-none c = passed_on _ _ _ _ c.from_residual.ensures.1 c.in_err-at-in-Index.ensures.stops (λ last h. place_never _ c.args.part.now _ _ Index _ _ _ c.in-Index.is c.in_default.ensures h)
+returns-in_err-at-in-Index-clause-none c = passed_on _ _ c.from_residual.ensures.1 c.in_err-at-in-Index.ensures.stops (λ last h. place_never _ c.args.part.now _ _ Index _ _ _ c.in-Index.is c.in_default.ensures h)
 
 pub returns-in_ok-step-in-Call-clause-goes : goal.returns-in_ok-step-in-Call-clause-goes
 returns-in_ok-step-in-Call-clause-goes c = λ least some within. place_ended _ _ _ Call _ _ _ least _ _ c.in-Call.is c.in_ok-step-in-Call.ensures.frames c.in_ok-at-in-Call.ensures.read.0 c.in_default.ensures
 
 pub returns-in_err-at-in-Call-clause-none : goal.returns-in_err-at-in-Call-clause-none
-returns-in_err-at-in-Call-clause-none c = passed_on _ _ _ _ c.from_residual-in_err-at-in-Call.ensures.1 c.in_err-at-in-Call.ensures.stops (λ last h. place_never _ c.args.part.now _ _ Call _ _ _ c.in-Call.is c.in_default.ensures h)
+returns-in_err-at-in-Call-clause-none c = passed_on _ _ c.from_residual-in_err-at-in-Call.ensures.1 c.in_err-at-in-Call.ensures.stops (λ last h. place_never _ c.args.part.now _ _ Call _ _ _ c.in-Call.is c.in_default.ensures h)

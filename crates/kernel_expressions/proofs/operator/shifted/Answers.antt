@@ -37,7 +37,7 @@ returns-then-made-lt8-clause-none c = halts_stopped _ _ _ _ _ _ c.end_operators.
     ])) c.end.ensures.none
 
 pub returns-in_err-digits-clause-none : goal.returns-in_err-digits-clause-none
-returns-in_err-digits-clause-none c = passed_on _ _ _ _ c.from_residual-in_err-digits.ensures.1 c.in_err-digits.ensures.stops (λ last h. shift_halts _ _ _ _ _ _ c.args.is_left _ _ _ _ c.requires c.in_ok-made.ensures
+returns-in_err-digits-clause-none c = passed_on _ _ c.from_residual-in_err-digits.ensures.1 c.in_err-digits.ensures.stops (λ last h. shift_halts _ _ _ _ _ _ c.args.is_left _ _ _ _ c.requires c.in_ok-made.ensures
     (omega (arith, c.wanted_level.ensures, c.if-wanted_level-gt8.false)) h)
 
 pub returns-clause-goes : goal.returns-clause-goes
