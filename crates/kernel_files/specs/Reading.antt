@@ -7,7 +7,7 @@ use Rattle.kernel_ir.specs.Refusals.{refusal, passed_limit}
 use Rattle.subst_rules.specs.Refused.{after}
 use Rattle.kernel_grammar.specs.declared.file.KernelFile.{KernelFile}
 use Rattle.kernel_grammar.specs.Files.{IsKernelFile}
-use Rattle.kernel_syntax.specs.Refusals.{IsNoFile}
+use Rattle.kernel_grammar.specs.Faults.{IsFaultAt}
 use Rattle.kernel_files.specs.FirstLine.{form_refusal}
 
 -- a file has at most 1048576 bytes
@@ -22,10 +22,10 @@ front_refusal bytes = option_or (bytes_refusal bytes) (form_refusal bytes)
 abbrev pub syntax_refusal : ℕ → ℕ → Refusal
 syntax_refusal line count = record (refusal Kernel 4 [] (pos count ∷ [])) { line = line }
 
--- The bytes are a kernel file, or are refused by rule 4 as none, after so many bytes of a line.
+-- The bytes are a kernel file, or are refused by rule 4 as none, after the bytes of a line that belong to the longest front with which some kernel file begins.
 abbrev pub IsSyntaxRefusal : List ℕ → Option Refusal → Type 0
 IsSyntaxRefusal bytes None = (file : KernelFile) × IsKernelFile bytes file
-IsSyntaxRefusal bytes (Some r) = IsNoFile bytes × (line : ℕ) × (count : ℕ) × (r ≡ syntax_refusal line count)
+IsSyntaxRefusal bytes (Some r) = (line : ℕ) × (count : ℕ) × IsFaultAt bytes line count × (r ≡ syntax_refusal line count)
 
 -- How bytes are refused that are no kernel file.
 abbrev pub IsFileRefusal : List ℕ → Option Refusal → Type 0

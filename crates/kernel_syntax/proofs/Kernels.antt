@@ -15,7 +15,7 @@ use Rattle.kernel_expressions.specs.Settled.{Spells}
 use Rattle.kernel_syntax.specs.Refusals.{IfSyntax}
 use Rattle.kernel_expressions.specs.Texts.{IsFit}
 
-lexicals-length : (bytes : List ℕ) (tokens : List Token) → length (lexicals bytes tokens) ≡ length tokens
+pub lexicals-length : (bytes : List ℕ) (tokens : List Token) → length (lexicals bytes tokens) ≡ length tokens
 lexicals-length bytes [] = refl
 lexicals-length bytes (token ∷ tokens) = ap suc (lexicals-length bytes tokens)
 
@@ -48,3 +48,7 @@ no_kernel one bytes tokens are none file k = none (record { tree = k.file.tree; 
 -- bytes that are no text of tokens
 pub no_tokens : (bytes : List ℕ) (fault : TextFault) (line count : ℕ) → fault ≡ Syntax line count → IsSyntaxFault Kernel bytes fault → (file : KernelFile) → IsKernelFile bytes file → ⊥
 no_tokens bytes fault line count e h file k = let j : IsFaultAt Kernel bytes line count = subst (IsSyntaxFault Kernel bytes) e h in j.none k.tokens k.are
+
+-- bytes that are no text of tokens have none
+pub no_text : (bytes : List ℕ) (fault : TextFault) (line count : ℕ) → fault ≡ Syntax line count → IsSyntaxFault Kernel bytes fault → (tokens : List Token) → IsTokensOf Kernel bytes tokens → ⊥
+no_text bytes fault line count e h tokens k = let j : IsFaultAt Kernel bytes line count = subst (IsSyntaxFault Kernel bytes) e h in j.none tokens k
