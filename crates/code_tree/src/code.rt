@@ -103,3 +103,13 @@ pub enum Nest {
     Insn(u32),
     Loop(u32, Listed<Nest>),
 }
+
+/// What is known of a code beside its text: rows over its names that hold for the arguments it is called with, and for each
+/// assignment in text order the id of its instruction and its inames on axes, from 0 to 2 for `g.0` to `g.2` and from 3 to 5
+/// for `l.0` to `l.2`.
+#[derive(Drop)]
+pub struct Facts {
+    pub rows: Listed<QuasiRow>,
+    pub ids: Listed<Name>,
+    pub axes: Listed<Listed<(u8, Name)>>,
+}

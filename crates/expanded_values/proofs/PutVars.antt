@@ -14,7 +14,7 @@ use Rattle.quasi_forms.specs.Placed.{put_floor}
 use Rattle.quasi_forms.proofs.SumLimits.{terms-collected, floors-collected}
 use Rattle.quasi_forms.proofs.Placing.{put_form-out, put_floor-out}
 use Rattle.quasi_forms.proofs.Recursion.{recursion-append}
-use Rattle.kernel_limits.proofs.FormFloors.{each_var-out}
+use Rattle.quasi_forms.proofs.FormVariables.{each_var-out}
 use Rattle.subst_rules.proofs.Bools.{both, first_of_both, second_of_both}
 
 module _ (test : ℕ → Bool) where

@@ -1,5 +1,4 @@
 mod SameAccess
-pub mod FormFloors
 mod Steps
 mod Outcomes
 mod SizeSteps

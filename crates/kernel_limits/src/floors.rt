@@ -1,49 +1,15 @@
 //! The different floors of an instruction.
 ghost use Rattle.std.specs.Prelude.{◌≡◌, ◌++◌, nat_le, map, flat_map, filter, length, All, IfOk, OnOk};
-ghost use Rattle.std.specs.List.{list_all};
 ghost use Rattle.affine_rows.specs.Forms.{IsForm};
-ghost use Rattle.affine_rows.specs.declared.quasi.Floor.{out-Floor};
-ghost use Rattle.expr_tree.specs.Scenes.{is_among, mentions_only};
+ghost use Rattle.expr_tree.specs.Scenes.{mentions_only};
 ghost use Rattle.kernel_ir.specs.Mentions.{forms, listed, listed_in};
 ghost use Rattle.kernel_ir.specs.Limits.{all_inames, floors_of_insn, forms_of, test_of, value_of};
 
 use crate::mentions::add_forms;
-use affine_rows::{Floor, Form, Listed, Quasi};
+use affine_rows::{Form, Listed};
 use kernel_ir::{Array, Insn, Kernel, QuasiRow};
+use quasi_forms::{few_floors, mentions_only};
 use std::alloc::{AllocError, Global};
-
-fn is_listed(vars: &[u32], var: u32) -> bool
-    ensures { result ≡ is_among vars.now var }
-{
-    vars.iter().any(|other| *other == var)
-}
-
-fn terms_mention_only(vars: &[u32], terms: &[(u32, i64)]) -> bool
-    ensures { result ≡ list_all (λ t. is_among vars.now t.0) terms.now }
-{
-    terms.iter().all(|term| is_listed(vars, term.0))
-}
-
-/// Whether a form mentions only these variables.
-#[cycle(only)]
-fn mentions_only(vars: &[u32], form: &Quasi) -> bool
-    ensures { result ≡ mentions_only vars.now form.now }
-{
-    terms_mention_only(vars, form.terms.as_slice())
-        && floors_mention_only(vars, form.floors.as_slice())
-}
-
-#[cycle(only)]
-fn floors_mention_only(vars: &[u32], floors: &[Floor]) -> bool
-    ensures { result ≡ list_all (λ f. mentions_only vars.now (out-Floor f).inner) floors.now }
-{
-    for floor in floors {
-        if !mentions_only(vars, &floor.inner) {
-            return false;
-        }
-    }
-    true
-}
 
 /// Adds the forms of rows.
 fn add_rows(alloc: Global, rows: &[QuasiRow], made: &mut Listed<Form>) -> Result<(), AllocError>
@@ -128,5 +94,5 @@ pub(crate) fn few_floors(
 {
     let vars = vars_of(alloc, kernel.params.as_slice(), inames)?;
     let forms = forms_with(alloc, kernel, insn, &vars, found)?;
-    quasi_forms::few_floors(alloc, forms.as_slice())
+    few_floors(alloc, forms.as_slice())
 }

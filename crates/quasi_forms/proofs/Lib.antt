@@ -17,3 +17,7 @@ pub mod AffineValues
 pub mod AffineParts
 pub mod Different
 pub mod Deciding
+pub mod ListPlaces
+pub mod RenumberedForms
+pub mod SystemParts
+pub mod FormVariables

@@ -3,7 +3,7 @@ use Rattle.std.proofs.Common.{◌≡◌, ℕ, ℤ, Bool, true, false, ◌&&◌, 
 use Rattle.std.specs.List.{list_all}
 use Rattle.affine_rows.specs.declared.quasi.Quasi.{Quasi, out-Quasi, fold_out-Quasi}
 use Rattle.affine_rows.specs.declared.quasi.Floor.{Floor, out-Floor, fold-Floor, fold_out-Floor}
-use Rattle.expr_tree.specs.Scenes.{each_var, is_among, mentions_only}
+use Rattle.expr_tree.specs.Scenes.{each_var}
 
 floor_passes : (ℕ → Bool) → Floor → Bool
 floor_passes test = fold-Floor Bool Bool (λ f. f.inner) (λ q. list_all (λ t. test t.0) q.terms && list_all (λ b. b) q.floors)
@@ -24,15 +24,15 @@ form_passes test = fold_out-Quasi Bool Bool (λ f. f.inner) (λ q. list_all (λ 
 pub each_var-out : (test : ℕ → Bool) (q : Quasi) → each_var test q ≡ (list_all (λ t. test t.0) (out-Quasi q).terms && list_all (λ f. each_var test (out-Floor f).inner) (out-Quasi q).floors)
 each_var-out test q = form_passes test q ∙ ap (λ (b : Bool). list_all (λ t. test t.0) (out-Quasi q).terms && b) (floors_pass test (out-Quasi q).floors)
 
-only_parts : (vars : List ℕ) (q : Quasi) (ts : List (ℕ × ℤ)) (fs : List Floor) → ts ≡ (out-Quasi q).terms → fs ≡ (out-Quasi q).floors →
-    (list_all (λ t. is_among vars t.0) ts && list_all (λ f. mentions_only vars (out-Floor f).inner) fs) ≡ mentions_only vars q
-only_parts vars q ts fs t f =
-    ap₂ (λ (xs : List (ℕ × ℤ)) (ys : List Floor). list_all (λ u. is_among vars u.0) xs && list_all (λ g. mentions_only vars (out-Floor g).inner) ys) t f ∙ sym (each_var-out (is_among vars) q)
+parts : (test : ℕ → Bool) (q : Quasi) (ts : List (ℕ × ℤ)) (fs : List Floor) → ts ≡ (out-Quasi q).terms → fs ≡ (out-Quasi q).floors →
+    (list_all (λ t. test t.0) ts && list_all (λ f. each_var test (out-Floor f).inner) fs) ≡ each_var test q
+parts test q ts fs t f =
+    ap₂ (λ (xs : List (ℕ × ℤ)) (ys : List Floor). list_all (λ u. test u.0) xs && list_all (λ g. each_var test (out-Floor g).inner) ys) t f ∙ sym (each_var-out test q)
 
-pub only_floors : (vars : List ℕ) (q : Quasi) (ts : List (ℕ × ℤ)) (fs : List Floor) (a b : Bool) → ts ≡ (out-Quasi q).terms → fs ≡ (out-Quasi q).floors → a ≡ list_all (λ t. is_among vars t.0) ts → a ≡ true →
-    b ≡ list_all (λ f. mentions_only vars (out-Floor f).inner) fs → b ≡ mentions_only vars q
-only_floors vars q ts fs a b t f own so rest = ap₂ (λ (x y : Bool). x && y) (sym so ∙ own) rest ∙ only_parts vars q ts fs t f
+pub each_passes : (test : ℕ → Bool) (q : Quasi) (ts : List (ℕ × ℤ)) (fs : List Floor) (a b : Bool) → ts ≡ (out-Quasi q).terms → fs ≡ (out-Quasi q).floors → a ≡ list_all (λ t. test t.0) ts → a ≡ true →
+    b ≡ list_all (λ f. each_var test (out-Floor f).inner) fs → b ≡ each_var test q
+each_passes test q ts fs a b t f own so rest = ap₂ (λ (x y : Bool). x && y) (sym so ∙ own) rest ∙ parts test q ts fs t f
 
-pub not_only : (vars : List ℕ) (q : Quasi) (ts : List (ℕ × ℤ)) (a : Bool) → ts ≡ (out-Quasi q).terms → a ≡ list_all (λ t. is_among vars t.0) ts → a ≡ false → a ≡ mentions_only vars q
-not_only vars q ts a t own so =
-    so ∙ (ap (λ (x : Bool). x && list_all (λ g. mentions_only vars (out-Floor g).inner) (out-Quasi q).floors) (sym so ∙ own) ∙ only_parts vars q ts (out-Quasi q).floors t refl)
+pub one_fails : (test : ℕ → Bool) (q : Quasi) (ts : List (ℕ × ℤ)) (a : Bool) → ts ≡ (out-Quasi q).terms → a ≡ list_all (λ t. test t.0) ts → a ≡ false → a ≡ each_var test q
+one_fails test q ts a t own so =
+    so ∙ (ap (λ (x : Bool). x && list_all (λ g. each_var test (out-Floor g).inner) (out-Quasi q).floors) (sym so ∙ own) ∙ parts test q ts (out-Quasi q).floors t refl)
