@@ -1,14 +1,16 @@
 -- The product of shape entries, one entry after the other.
-use Rattle.std.proofs.Common.{◌≡◌, ◌∙◌, ◌^◌, ◌-◌, pos, neg_ℤ, Bool, true, false, ◌&&◌, ◌||◌, cond, List, [], ◌∷◌, ◌++◌, refl, sym, ap, subst, Option, Some, None}
+use Rattle.std.proofs.Common.{◌≡◌, ◌∙◌, ◌^◌, ◌-◌, pos, neg_ℤ, Bool, true, false, ◌&&◌, ◌||◌, cond, List, [], ◌∷◌, ◌++◌, refl, sym, ap, subst, Option, Some, None, IfSome}
 use Rattle.std.specs.List.{AllByRecursion, list_all}
+use Rattle.std.specs.Option.{is_some}
 use Rattle.affine_rows.specs.declared.quasi.Quasi.{Quasi}
 use Rattle.affine_rows.specs.Forms.{IsForm}
 use Rattle.quasi_forms.specs.Affine.{Part, is_constant, times_form, multiple_part, product_of_parts}
 use Rattle.quasi_forms.proofs.Likeness.{both, and_true}
 use Rattle.quasi_forms.proofs.Recursion.{recursion-append}
-use Rattle.kernel_ir.specs.Limits.{entry_part, size_from, size_forms}
+use Rattle.kernel_ir.specs.Limits.{entry_part, size_from, size_forms, size_part}
 use Rattle.quasi_forms.specs.Fits.{fits_form}
 use Rattle.kernel_limits.specs.Asked.{fits_size}
+use Rattle.kernel_limits.specs.SizeForms.{size_form, form_where, small_size_form}
 use Rattle.kernel_limits.specs.Sizes.{joins, moved, IsSize, product_form}
 use Rattle.quasi_forms.proofs.Deciding.{form_fits}
 
@@ -125,6 +127,17 @@ decides_next p q size f qs c b h join form is made rest =
     let parts = both (c || is_constant q) (joins (c && is_constant q) qs) join in
     rest (next_part c p q) (next_size c p q size f h form is made) ∙ ap (λ (s : Option Part). list_all fits_form (size_forms s)) (sym (from_next c p q qs h.written parts.0))
 
+-- ---- the row itself
+
+pub row_is : (p : Part) (size : Quasi) (c : Bool) → IsSize p size c → Some (moved (pos (2 ^ 31 - 1)) (neg_ℤ (pos 1)) size) ≡ size_form (size_from (Some p) [])
+row_is p size c h = ap (λ (f : Quasi). Some (moved (pos (2 ^ 31 - 1)) (neg_ℤ (pos 1)) f)) (sym h.form)
+
+pub row_next : (p : Part) (q size f row : Quasi) (qs : List Quasi) (c : Bool) → IsSize p size c → joins c (q ∷ qs) ≡ true → IsForm q → f ≡ product_form c size q → IsForm f →
+    ((r : Part) → IsSize r f (c && is_constant q) → Some row ≡ size_form (size_from (Some r) qs)) → Some row ≡ size_form (size_from (Some p) (q ∷ qs))
+row_next p q size f row qs c h join form is made rest =
+    let parts = both (c || is_constant q) (joins (c && is_constant q) qs) join in
+    rest (next_part c p q) (next_size c p q size f h form is made) ∙ ap size_form (sym (from_next c p q qs h.written parts.0))
+
 -- ---- more than one entry with variables
 
 none_from : (qs : List Quasi) → size_from None qs ≡ None
@@ -146,8 +159,21 @@ not_joined : (qs : List Quasi) (c : Bool) (p : Part) → p.constant ≡ c → jo
 not_joined [] c p e h = absurd (let clash : true ≡ false = h in cc)
 not_joined (q ∷ qs) c p e h = joins_case qs c (c || is_constant q) p q e refl h (λ r f g. not_joined qs (c && is_constant q) r f g)
 
+pub no_part : (q : Quasi) (qs : List Quasi) → joins (is_constant q) qs ≡ false → size_from (Some (entry_part q)) qs ≡ None
+no_part q qs h = not_joined qs (is_constant q) (entry_part q) refl h
+
 pub decides_none : (q : Quasi) (qs : List Quasi) → joins (is_constant q) qs ≡ false → true ≡ fits_size (q ∷ qs)
-decides_none q qs h = ap (λ (s : Option Part). list_all fits_form (size_forms s)) (sym (not_joined qs (is_constant q) (entry_part q) refl h))
+decides_none q qs h = ap (λ (s : Option Part). list_all fits_form (size_forms s)) (sym (no_part q qs h))
 
 pub first_size : (q : Quasi) → IsForm q → IsSize (entry_part q) q (is_constant q)
 first_size q form = record { form = refl; written = refl; steps = (form, tt) }
+
+-- ---- the row of a shape
+
+pub no_row : (q : Quasi) (qs : List Quasi) → joins (is_constant q) qs ≡ false → None ≡ small_size_form (q ∷ qs)
+no_row q qs h = ap (λ (s : Option Part). form_where (list_all fits_form (size_forms s)) (size_form s)) (sym (no_part q qs h))
+
+-- what comes of the entries is the row where all forms fit
+pub row_made : (q : Quasi) (qs : List Quasi) (made : Option Quasi) → is_some made ≡ fits_size (q ∷ qs) → IfSome made (λ f. Some f ≡ size_form (size_part (q ∷ qs))) → made ≡ small_size_form (q ∷ qs)
+row_made q qs None fits row = ap (λ (b : Bool). form_where b (size_form (size_part (q ∷ qs)))) fits
+row_made q qs (Some f) fits row = row ∙ ap (λ (b : Bool). form_where b (size_form (size_part (q ∷ qs)))) fits

@@ -1,4 +1,5 @@
 pub mod Listings
 pub mod Asked
 pub mod Sizes
+pub mod SizeForms
 pub mod Laws

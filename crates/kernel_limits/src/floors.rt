@@ -8,7 +8,7 @@ ghost use Rattle.kernel_ir.specs.Limits.{all_inames, floors_of_insn, forms_of, t
 use crate::mentions::add_forms;
 use affine_rows::{Form, Listed};
 use kernel_ir::{Array, Insn, Kernel, QuasiRow};
-use quasi_forms::{few_floors, mentions_only};
+use quasi_forms::mentions_only;
 use std::alloc::{AllocError, Global};
 
 /// Adds the forms of rows.
@@ -94,5 +94,5 @@ pub(crate) fn few_floors(
 {
     let vars = vars_of(alloc, kernel.params.as_slice(), inames)?;
     let forms = forms_with(alloc, kernel, insn, &vars, found)?;
-    few_floors(alloc, forms.as_slice())
+    quasi_forms::few_floors(alloc, forms.as_slice())
 }

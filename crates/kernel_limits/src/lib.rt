@@ -12,4 +12,4 @@ mod sizes;
 mod temps;
 
 pub use limits::check_limits;
-pub use sizes::fits_size;
+pub use sizes::{fits_size, size_form};

@@ -7,6 +7,7 @@ ghost use Rattle.quasi_forms.specs.Fits.{fits_form};
 ghost use Rattle.quasi_forms.specs.Affine.{Part};
 ghost use Rattle.kernel_ir.specs.Limits.{size_forms, size_from};
 ghost use Rattle.kernel_limits.specs.Asked.{fits_size};
+ghost use Rattle.kernel_limits.specs.SizeForms.{size_form, small_size_form};
 ghost use Rattle.kernel_limits.specs.Sizes.{IsSize, Multiplies, joins, moved};
 
 use affine_rows::{Form, Listed};
@@ -67,24 +68,25 @@ fn times_entry(
     }
 }
 
-/// Whether the row that says that the product is at most 2^31-1 is within the limits, and so is each product with
-/// further entries.
-fn fits_from(
+/// The row that says that the product with further entries is at most 2^31-1: that number less the product, if each form
+/// on the way is within the limits.
+fn row_from(
     alloc: Global,
     size: &Form,
     constant: bool,
     entries: &[Form],
-) -> Result<bool, AllocError>
+) -> Result<Option<Form>, AllocError>
     requires { joins constant entries.now ≡ true }
-    ensures { IfOk result (λ fits. (p : Part) → IsSize p size.now constant → fits ≡ list_all fits_form (size_forms (size_from (Some p) entries.now))) }
+    ensures fits { IfOk result (λ made. (p : Part) → IsSize p size.now constant → is_some made ≡ list_all fits_form (size_forms (size_from (Some p) entries.now))) }
+    ensures row { IfOk result (λ made. IfSome made (λ f. (p : Part) → IsSize p size.now constant → Some f ≡ size_form (size_from (Some p) entries.now))) }
 {
     match entries.split_first() {
-        None => Ok(moved(alloc, LARGEST_SIZE, -1, size)?.is_some()),
+        None => moved(alloc, LARGEST_SIZE, -1, size),
         Some((entry, others)) => {
             let own = is_constant(entry.quasi());
             match times_entry(alloc, size, constant, entry)? {
-                None => Ok(false),
-                Some(next) => fits_from(alloc, &next, both(constant, own), others),
+                None => Ok(None),
+                Some(next) => row_from(alloc, &next, both(constant, own), others),
             }
         }
     }
@@ -102,7 +104,25 @@ pub fn fits_size(alloc: Global, shape: &[Form]) -> Result<bool, AllocError>
             if !joins(constant, others) {
                 return Ok(true);
             }
-            fits_from(alloc, entry, constant, others)
+            Ok(row_from(alloc, entry, constant, others)?.is_some())
+        }
+    }
+}
+
+/// The row that says that the product of the entries is at most 2^31-1: that number less the product, if each form on the
+/// way is within its limits, as `fits_size` asks. None for a shape without entries, or with variables in more than one.
+/// The only error is want of memory.
+pub fn size_form(alloc: Global, shape: &[Form]) -> Result<Option<Form>, AllocError>
+    ensures { IfOk result (λ made. made ≡ small_size_form shape.now) }
+{
+    match shape.split_first() {
+        None => Ok(None),
+        Some((entry, others)) => {
+            let constant = is_constant(entry.quasi());
+            if !joins(constant, others) {
+                return Ok(None);
+            }
+            row_from(alloc, entry, constant, others)
         }
     }
 }
