@@ -138,7 +138,7 @@ fn is_same(alloc: Global, text: &str) -> bool {
 
 fn tell_fault(rt: &HostRuntime, fault: &Fault) -> io::Result<()> {
     match fault {
-        Fault::Rule(refusal) => match refusal_text(rt.alloc(), refusal) {
+        Fault::Rule(refusal) => match refusal_text(rt.alloc(), refusal, "") {
             Ok(line) => print!(rt; "{line}"),
             Err(_) => println!(rt; "out of memory"),
         },
