@@ -74,12 +74,15 @@ fn add_values(
 ) -> Result<(), AllocError>
     ensures { OnOk result (words.new.items ≡ words.old.items ++ values names.now numbers.now) }
 {
-    match (names, numbers) {
-        ([name, names @ ..], [number, numbers @ ..]) => {
-            words.push(value(alloc, name, *number)?)?;
-            add_values(alloc, names, numbers, words)
-        }
-        _ => Ok(()),
+    match names {
+        [] => Ok(()),
+        [name, names @ ..] => match numbers {
+            [] => Ok(()),
+            [number, numbers @ ..] => {
+                words.push(value(alloc, name, *number)?)?;
+                add_values(alloc, names, numbers, words)
+            }
+        },
     }
 }
 
