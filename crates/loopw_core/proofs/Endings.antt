@@ -1,5 +1,5 @@
 -- How a call on a kernel file ends.
-use Rattle.std.specs.Prelude.{◌≡◌, ◌⊎◌, ℕ, ◌+◌, ◌^◌, ◌≤◌, List, length, Result, Ok, Err, true, false}
+use Rattle.std.specs.Prelude.{◌≡◌, ◌⊎◌, ℕ, ◌+◌, ◌^◌, ◌≤◌, List, [], length, Result, Ok, Err, true, false}
 use Rattle.std.proofs.Common.{refl, sym, ap, subst, ◌∙◌, arith, inl, inr, true≢false}
 use Rattle.host_io.specs.declared.host.ReadError.{ReadError}
 use Rattle.host_io.specs.declared.host.ReadError.TheVariants.{TooLong, Failed as not_read}
@@ -40,7 +40,7 @@ no_other status other (inl e) one five h = one (omega arith)
 no_other status other (inr e) one five h = five (omega arith)
 
 pub ends_too_long : (status : ℕ) (old between new : Told) (kernel : List ℕ) → ReadsKernel old between kernel → IsLongerThan old kernel (2 ^ 20)
-    → SaysOrNot status 1 between new (refusal_line too_long) → Ends status old new kernel
+    → SaysOrNot status 1 between new (refusal_line too_long []) → Ends status old new kernel
 ends_too_long status old between new kernel read longer said = record {
   known = one_or_five status said.known;
   no_usage = no_other status 2 said.known (λ e. omega arith) (λ e. omega arith);

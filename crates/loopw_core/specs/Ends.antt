@@ -1,5 +1,5 @@
 -- What each status of the top call says of the host before and after the call.
-use Rattle.std.specs.Prelude.{◌≡◌, ◌⊎◌, ℕ, ◌+◌, ◌^◌, ◌≤◌, List, length, MatchOption, Some}
+use Rattle.std.specs.Prelude.{◌≡◌, ◌⊎◌, ℕ, ◌+◌, ◌^◌, ◌≤◌, List, [], length, MatchOption, Some}
 use Rattle.kernel_ir.specs.declared.fault.Refusal.{Refusal}
 use Rattle.host_io.specs.Told.{Told, Rose, IsFile, IsLongerThan, OpenMayFail, ReadsAtMost, bytes_of, after_out, after_err, FailsOutAfter, FailsErrAfter}
 use Rattle.first_form.specs.declared.form.FirstForm.{FirstForm}
@@ -58,7 +58,7 @@ pub record Refuses (old new : Told) (kernel : List ℕ) : Type 0 where
   pub read : ReadsKernel old between kernel
   pub refusal : Refusal
   pub holds : IsTooLong old kernel refusal ⊎ IsOfNoForm old kernel refusal
-  pub said : Says between new (refusal_line refusal)
+  pub said : Says between new (refusal_line refusal [])
 
 -- The kernel file could not be opened or read, which is said.
 pub record FailsToRead (old new : Told) (kernel : List ℕ) : Type 0 where
@@ -86,7 +86,7 @@ pub record Wrote (status : ℕ) (old new : Told) (bytes : List ℕ) : Type 0 whe
   pub no_usage : status ≡ 2 → ⊥
   pub no_read_fault : status ≡ 3 → ⊥
   pub done : status ≡ 0 → (text : List ℕ) × IsRightCode bytes text × (new ≡ after_out old text)
-  pub refused : status ≡ 1 → (refusal : Refusal) × IsRefusedForm bytes refusal × Says old new (refusal_line refusal)
+  pub refused : status ≡ 1 → (refusal : Refusal) × IsRefusedForm bytes refusal × Says old new (refusal_line refusal [])
   pub write_fault : status ≡ 4 → (text : List ℕ) × IsRightCode bytes text × FailsOutAfter old new text
   pub no_memory : status ≡ 5 → new ≡ old
 

@@ -1,5 +1,5 @@
 //! The top call.
-ghost use Rattle.std.specs.Prelude.{◌≡◌, ◌≢◌, ◌↔◌, ◌≤◌};
+ghost use Rattle.std.specs.Prelude.{◌≡◌, ◌≢◌, ◌↔◌, ◌≤◌, []};
 ghost use Rattle.loopw_core.specs.Words.{IsNoForm, bytes_of_words};
 ghost use Rattle.refusal_lines.specs.Lines.{refusal_line};
 ghost use Rattle.loopw_core.specs.Lines.{usage_line, read_fault_line, too_long};
@@ -33,9 +33,9 @@ fn say<H: Host>(host: &mut H, line: &[u8])
 }
 
 fn refuse<H: Host>(alloc: Global, refusal: &Refusal, host: &mut H) -> u8
-    ensures { SaysOrNot result 1 (H.told host.old) (H.told host.new) (refusal_line refusal.now) }
+    ensures { SaysOrNot result 1 (H.told host.old) (H.told host.new) (refusal_line refusal.now []) }
 {
-    match refusal_text(alloc, refusal) {
+    match refusal_text(alloc, refusal, "") {
         Ok(line) => {
             say(host, line.as_bytes());
             REFUSED
@@ -45,7 +45,7 @@ fn refuse<H: Host>(alloc: Global, refusal: &Refusal, host: &mut H) -> u8
 }
 
 fn refuse_length<H: Host>(alloc: Global, host: &mut H) -> u8
-    ensures { SaysOrNot result 1 (H.told host.old) (H.told host.new) (refusal_line too_long) }
+    ensures { SaysOrNot result 1 (H.told host.old) (H.told host.new) (refusal_line too_long []) }
 {
     match refused_length(alloc) {
         Ok(refusal) => refuse(alloc, &refusal, host),
