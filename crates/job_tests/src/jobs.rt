@@ -62,23 +62,34 @@ fn the_smallest_kernel_is_written(rt: HostRuntime) -> Result<(), Fail> {
 }
 
 #[test]
+fn other_kernels_are_written_and_shown(rt: HostRuntime) -> Result<(), Fail> {
+    let alloc = rt.alloc();
+    let kernel = b"kernel 1\ndomain [] -> { [i] : i = 3 }\noutput out: int32[4]\nout[i] = 7\n";
+    let mut host = host_with(alloc, Some(kernel.as_slice()), 4096, &[], &[])?;
+    let words = words_of(alloc, &WRITE)?;
+    assert_eq!(rt; top(alloc, &words, &mut host), 0);
+    assert!(rt;
+        host.out_bytes().ends_with(
+            b"  for (int64_t v_i = 3; v_i <= 3; ++v_i) {\n    v_out[v_i] = (int32_t)7u;\n  }\n}\n".as_slice()
+        )
+    );
+    let mut host = host_with(alloc, Some(kernel.as_slice()), 4096, &[], &[])?;
+    let words = words_of(alloc, &["show", "double.txt", "-"])?;
+    assert_eq!(rt; top(alloc, &words, &mut host), 0);
+    assert!(rt;
+        host.out_bytes()
+            .starts_with(b"kernel 1\ndomain [] -> { [i] : ".as_slice())
+    );
+    Ok(())
+}
+
+#[test]
 fn files_are_refused_by_one_line(rt: HostRuntime) -> Result<(), Fail> {
     let alloc = rt.alloc();
-    let cut = DOUBLE.as_bytes();
-    let mut plain = Vec::new(alloc);
-    plain.extend_from_slice(
-        cut.strip_suffix(b"2*a[i]\n".as_slice())
-            .ok_or("the factor")?,
-    )?;
-    plain.extend_from_slice(b"a[i]\n")?;
     let full = vec![in alloc; b'x'; 1_048_576]?;
     let over = vec![in alloc; b'x'; 1_048_577]?;
     for (bytes, line) in [
-        (
-            plain.as_slice(),
-            "kernel line 5: rule 5 FormNotBuilt: out\n",
-        ),
-        (b"".as_slice(), "kernel line 1: rule 5 FormNotBuilt: -\n"),
+        (b"".as_slice(), "kernel: rule 5 FormNotBuilt: -\n"),
         (
             b"hello\n".as_slice(),
             "kernel line 1: rule 5 FormNotBuilt: hello\n",
@@ -134,5 +145,5 @@ fn other_words_give_the_usage_line(rt: HostRuntime) -> Result<(), Fail> {
     gives_the_usage_line(&rt, alloc, &["write", "fortran", "k", "s"])?;
     gives_the_usage_line(&rt, alloc, &["write", "c", "double.txt", "s"])?;
     gives_the_usage_line(&rt, alloc, &["write", "c", "double.txt", "-", "-"])?;
-    gives_the_usage_line(&rt, alloc, &["show", "double.txt", "-"])
+    gives_the_usage_line(&rt, alloc, &["show", "double.txt", "s"])
 }

@@ -48,7 +48,7 @@ fn write_floor(
 
 /// Adds an index form.
 #[cycle(form)]
-fn write_quasi(
+pub(crate) fn write_quasi(
     alloc: Global,
     out: &mut Vec<u8>,
     spelling: &Spelling,

@@ -5,7 +5,9 @@ mod forms;
 mod instructions;
 mod lines;
 mod spelling;
+mod texts;
 mod values;
 mod whole;
 
+pub use texts::{form_text, row_text};
 pub use whole::print_kernel;

@@ -1,2 +1,4 @@
-pub mod Endings
-pub mod Counts
+mod Stopped
+mod Counts
+mod Endings
+mod NoForms

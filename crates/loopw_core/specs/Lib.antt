@@ -1,4 +1,6 @@
 pub mod Words
 pub mod Lines
-pub mod Compiled
+pub mod Written
+pub mod Reading
+pub mod Stopping
 pub mod Ends

@@ -1,7 +1,8 @@
 -- The lines that are written on err.
-use Rattle.std.specs.Prelude.{ℕ, pos, List, [], ◌∷◌, ◌++◌, codes, None}
-use Rattle.kernel_ir.specs.declared.fault.Site.TheVariants.{Kernel}
+use Rattle.std.specs.Prelude.{ℕ, pos, List, [], ◌∷◌, ◌++◌, codes}
+use Rattle.kernel_ir.specs.declared.fault.Site.{Site}
 use Rattle.kernel_ir.specs.declared.fault.Refusal.{Refusal}
+use Rattle.kernel_ir.specs.Refusals.{passed_limit}
 
 abbrev pub newline : List ℕ
 newline = codes "\n"
@@ -14,9 +15,5 @@ unfoldable pub read_fault_line : List ℕ → List ℕ
 read_fault_line name = codes "read fault: " ++ name ++ newline
 
 -- rule 3: the file has more bytes than that
-unfoldable pub too_long : Refusal
-too_long = record { site = Kernel; line = 0; number = 3; names = codes "bytes" ∷ []; numbers = pos 1048576 ∷ []; point = None }
-
--- rule 5: the form of this line is not built, and this is its first word
-unfoldable pub not_built : ℕ → List ℕ → Refusal
-not_built line word = record { site = Kernel; line = line; number = 5; names = word ∷ []; numbers = []; point = None }
+abbrev pub too_long : Site → Refusal
+too_long site = passed_limit site (codes "bytes") (pos 1048576)

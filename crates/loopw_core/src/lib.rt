@@ -2,8 +2,16 @@
 #![tactic(auto)]
 
 mod call;
-mod compile;
+mod fault;
+mod kernels;
 mod lines;
+mod reading;
+mod shows;
+mod stop;
+mod targets;
+mod texts;
 mod words;
 
 pub use call::top;
+pub use fault::JobFault;
+pub use shows::show_job;

@@ -1,0 +1,4 @@
+mod SameAccesses
+mod EqualPlaces
+mod KeptFloors
+mod KeptRows
