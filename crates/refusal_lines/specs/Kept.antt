@@ -35,11 +35,17 @@ at_point names (Some point) = codes "at" ∷ values names point.at ++ codes "ove
 abbrev pub is_side : List ℕ → Bool
 is_side word = bytes_eq word (codes "below") || bytes_eq word (codes "above")
 
--- the case is a variable's, which is then among the values, and the side on which it differs
+-- an axis of groups or items
+abbrev pub is_axis : List ℕ → Bool
+is_axis word =
+    ((((bytes_eq word (codes "g.0") || bytes_eq word (codes "g.1")) || bytes_eq word (codes "g.2"))
+    || bytes_eq word (codes "l.0")) || bytes_eq word (codes "l.1")) || bytes_eq word (codes "l.2")
+
+-- the case is an axis's, or a variable's, which is then among the values, and the side on which it differs
 abbrev pub has_side : List (List ℕ) → Bool
 has_side [] = false
-has_side (var ∷ []) = false
-has_side (var ∷ side ∷ names) = is_side side && list_any (bytes_eq var) names
+has_side (word ∷ []) = false
+has_side (word ∷ side ∷ names) = is_side side && (is_axis word || list_any (bytes_eq word) names)
 
 abbrev pub case_words : List (List ℕ) → Option Point → List (List ℕ)
 case_words names point =

@@ -2,7 +2,7 @@
 ghost use Rattle.std.specs.Prelude.{◌≡◌, ◌++◌, ◌∷◌, [], drop, map, codes, bytes_eq, IfOk, OnOk};
 ghost use Rattle.std.specs.List.{list_any};
 ghost use Rattle.std.specs.Fmt.{signed_decimal};
-ghost use Rattle.refusal_lines.specs.Kept.{name_at, ended_at, number_at, values, at_point, is_side, has_side, case_words, cell_words, children, indexed, indexed_race, single_race, race_words, words_by, kept_words};
+ghost use Rattle.refusal_lines.specs.Kept.{name_at, ended_at, number_at, values, at_point, is_side, is_axis, has_side, case_words, cell_words, children, indexed, indexed_race, single_race, race_words, words_by, kept_words};
 
 use crate::rules::{Kept, kept_by};
 use affine_rows::Point;
@@ -121,12 +121,25 @@ fn is_listed(names: &[Name], name: &Name) -> bool
         .any(|other| name.as_bytes() == other.as_bytes())
 }
 
-/// Whether the case is a variable's, with the side on which it differs.
+/// Whether the word is an axis of groups or items.
+fn is_axis(word: &Name) -> bool
+    ensures { result ≡ is_axis word.now }
+{
+    let word = word.as_str();
+    word == "g.0"
+        || word == "g.1"
+        || word == "g.2"
+        || word == "l.0"
+        || word == "l.1"
+        || word == "l.2"
+}
+
+/// Whether the case is an axis's or a variable's, with the side on which it differs.
 fn has_side(names: &[Name]) -> bool
     ensures { result ≡ has_side names.now }
 {
     match names {
-        [var, side, rest @ ..] => is_side(side) && is_listed(rest, var),
+        [case, side, rest @ ..] => is_side(side) && (is_axis(case) || is_listed(rest, case)),
         _ => false,
     }
 }
