@@ -7,7 +7,7 @@ use std::alloc::AllocError;
 use text_writer::put;
 
 /// The spelling of an axis: groups 0 to 2, then items 0 to 2.
-fn axis(number: usize) -> &'static str
+pub fn axis(number: usize) -> &'static str
     ensures { result.now ≡ axis_text number }
 {
     match number {

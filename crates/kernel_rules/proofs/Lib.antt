@@ -1,4 +1,4 @@
 mod SameAccesses
 mod EqualPlaces
 mod KeptFloors
-mod KeptRows
+pub mod KeptRows

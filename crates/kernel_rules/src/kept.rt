@@ -115,7 +115,7 @@ fn differ_of(asked: bool, width: u32, pairs: Listed<(u32, u32)>) -> Differ
 
 /// The system of two instances of which one of these variables of the first is to differ from its partner in the second, if
 /// it is asked and all are variables of the system; else none is, which asks of more instances.
-pub(crate) fn pair_over(system: System, pairs: Listed<(u32, u32)>, asked: bool) -> Pair
+pub fn pair_over(system: System, pairs: Listed<(u32, u32)>, asked: bool) -> Pair
     ensures { result ≡ pair_over system pairs asked }
 {
     let width = system.width;
