@@ -35,8 +35,14 @@ fn check_uses(alloc: Global, read: &ReadKernel) -> Result<(), Fault>
     }
 }
 
-/// The kernel that the lines of a file say, with the kinds of its temporaries.
-fn kernel_in(alloc: Global, file: &KernelFile) -> Result<Kernel, Fault>
+/// The kernel that a kernel file says, with the kinds of its temporaries. The file is what some bytes are read as.
+///
+/// The first of these that holds refuses: line by line, of one line in this order, rule 3, a limit, rule 1, an unknown name, rule
+/// 2, a name that is taken, and rule 6, what is no index expression; rule 8, a use of a rule with another count of arguments,
+/// first in bodies and then in instructions; rule 7, a rule that reaches itself; rule 3, what passes a limit once the uses of
+/// rules are replaced; and instruction by instruction rule 10, a temporary that gets no kind, and rule 9, another kind than is
+/// asked, then rule 9 in rules that no instruction uses. `OutOfMemory` may come in place of any answer.
+pub fn kernel_of_file(alloc: Global, file: &KernelFile) -> Result<Kernel, Fault>
     requires { IsSomeFile file.now }
     ensures valid { IfOk result IsValid }
     ensures kernel { IfOk result (λ k. k ≡ inferred (kernel_of file.now)) }
@@ -71,7 +77,7 @@ pub fn read_kernel(alloc: Global, bytes: &[u8]) -> Result<Kernel, Fault>
     ensures refused { RefusesAs (IsReadingRefusal bytes.now) result }
 {
     match read_file(alloc, bytes) {
-        Ok(file) => kernel_in(alloc, &file),
+        Ok(file) => kernel_of_file(alloc, &file),
         Err(fault) => Err(fault),
     }
 }

@@ -1,6 +1,6 @@
 use Rattle.kernel_ir.specs.declared.kernel.Kernel.{Kernel}
 use Rattle.kernel_reader.proofs.Sequels.{uses_behind_lines, kinds_behind_lines, typable, said}
-use Rattle.kernel_reader.proofs.reader.kernel_in.Goals as goal
+use Rattle.kernel_reader.proofs.reader.kernel_of_file.Goals as goal
 
 pub infer-requires : goal.infer-requires
 infer-requires c =

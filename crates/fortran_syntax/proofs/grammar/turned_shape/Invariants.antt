@@ -1,0 +1,5 @@
+use Rattle.std.proofs.Common.{length}
+use Rattle.fortran_syntax.proofs.grammar.turned_shape.Given as goal
+
+abbrev pub decreases-values : goal.decreases-values
+decreases-values l = length l.values.items
