@@ -89,11 +89,8 @@ fn files_are_refused_by_one_line(rt: HostRuntime) -> Result<(), Fail> {
     let full = vec![in alloc; b'x'; 1_048_576]?;
     let over = vec![in alloc; b'x'; 1_048_577]?;
     for (bytes, line) in [
-        (b"".as_slice(), "kernel: rule 5 FormNotBuilt: -\n"),
-        (
-            b"hello\n".as_slice(),
-            "kernel line 1: rule 5 FormNotBuilt: hello\n",
-        ),
+        (b"".as_slice(), "kernel: rule 11 NoBlock: -\n"),
+        (b"hello\n".as_slice(), "kernel: rule 11 NoBlock: -\n"),
         (over.as_slice(), "kernel: rule 3 Limit: bytes 1048576\n"),
     ] {
         let mut host = host_with(alloc, Some(bytes), 4096, &[], &[])?;
@@ -143,7 +140,7 @@ fn other_words_give_the_usage_line(rt: HostRuntime) -> Result<(), Fail> {
     let alloc = rt.alloc();
     gives_the_usage_line(&rt, alloc, &[])?;
     gives_the_usage_line(&rt, alloc, &["write", "fortran", "k", "s"])?;
-    gives_the_usage_line(&rt, alloc, &["write", "c", "double.txt", "s"])?;
     gives_the_usage_line(&rt, alloc, &["write", "c", "double.txt", "-", "-"])?;
-    gives_the_usage_line(&rt, alloc, &["show", "double.txt", "s"])
+    gives_the_usage_line(&rt, alloc, &["show", "double.txt"])?;
+    gives_the_usage_line(&rt, alloc, &["gen", "65"])
 }

@@ -12,7 +12,7 @@ use Rattle.first_form.specs.Form.{IsFile}
 use Rattle.first_form.specs.Kernels.{kernel_of}
 use Rattle.code_meaning.specs.RightFor.{IsRightFor}
 use Rattle.loopw_core.specs.declared.words.Form.{Form}
-use Rattle.loopw_core.specs.declared.words.Form.TheVariants.{Write, Show}
+use Rattle.loopw_core.specs.declared.words.Form.TheVariants.{Write, Show, Eval, Run, Gen}
 use Rattle.loopw_core.specs.declared.fault.JobFault.{JobFault}
 use Rattle.loopw_core.specs.declared.fault.JobFault.TheVariants.{OutOfMemory, Refused}
 
@@ -57,6 +57,9 @@ second_of (file ∷ files) = first_of files
 abbrev pub IsText : Form → List (List ℕ) → List ℕ → Type 0
 IsText (Write target) files text = IsCodeText target (first_of files) (second_of files) text
 IsText Show files text = IsKernelText text
+IsText Eval files text = Unit {0}
+IsText Run files text = Unit {0}
+IsText (Gen count) files text = Unit {0}
 
 -- without a script, the kernel is not of the one form
 abbrev pub IsNoForm : List ℕ → List ℕ → Type 0
@@ -71,6 +74,9 @@ MayRefuseFor OpenCl kernel script = Unit {0}
 abbrev pub MayRefuse : Form → List (List ℕ) → Type 0
 MayRefuse (Write target) files = MayRefuseFor target (first_of files) (second_of files)
 MayRefuse Show files = Unit {0}
+MayRefuse Eval files = Unit {0}
+MayRefuse Run files = Unit {0}
+MayRefuse (Gen count) files = Unit {0}
 
 -- want of memory, or a refusal that may come
 abbrev pub IsRefusalOf : Type 0 → JobFault → Type 0

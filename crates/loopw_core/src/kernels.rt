@@ -1,6 +1,7 @@
 //! From the bytes of a kernel file to a kernel that is checked.
 use crate::fault::{JobFault, plain};
 use dependences::auto_deps;
+use fortran_blocks::read_marked;
 use kernel_checks::{Sound, check};
 use kernel_ir::{Fault, Kernel};
 use kernel_reader::read_kernel;
@@ -16,7 +17,7 @@ fn read_any(alloc: Global, bytes: &[u8]) -> Result<Kernel, Fault> {
         Err(Fault::OutOfMemory) => Err(Fault::OutOfMemory),
         Err(Fault::Rule(refusal)) => {
             if refusal.number == OTHER_FORM {
-                Err(Fault::Rule(refusal))
+                read_marked(alloc, bytes)
             } else {
                 Err(Fault::Rule(refusal))
             }

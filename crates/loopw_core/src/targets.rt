@@ -4,15 +4,17 @@ ghost use Rattle.code_text.specs.Text.{text_of};
 ghost use Rattle.loopw_core.specs.Written.{IsCodeText, IsKnown, IsRefusalOf, IsRightWhereKnown, MayRefuseFor};
 
 use crate::fault::{JobFault, placed};
-use crate::kernels::kernel_of;
+use crate::scripts::kernel_after;
+use barriers::place_with;
 use code_text::{write_c, write_opencl};
-use code_tree::{Code, Target};
+use code_tree::{Code, Facts, Nest, Target};
 use first_form::{FormFault, code_of, read_form};
 use first_right::laws::code_is_right;
 use kernel_checks::{Sound, check};
 use kernel_ir::{Fault, Kernel, Site};
-use linearizer::linearize;
+use linearizer::{facts, linearize};
 use nest_tree::nest;
+use race_check::check_code_with;
 use reductions::realize_all;
 use std::alloc::{AllocError, Global};
 use subst_rules::expand;
@@ -64,13 +66,34 @@ fn plain_kernel(alloc: Global, kernel: &Kernel) -> Result<Sound, Fault> {
     check(alloc, realized)
 }
 
-/// The code of a kernel for a target.
+/// The code with its barriers, and without a race.
+fn guarded(alloc: Global, code: Code, facts: &Facts) -> Result<Code, Fault>
+    ensures { IfOk result (λ made. made.target ≡ code.target) }
+{
+    let placed = place_with(alloc, code, facts)?;
+    let checked = check_code_with(alloc, placed, facts)?;
+    Ok(checked.into_code())
+}
+
+/// The code of a kernel for OpenCL, with its barriers, and without a race.
+fn shared_code(alloc: Global, kernel: &Kernel, nest: &[Nest]) -> Result<Code, Fault>
+    ensures { IfOk result (λ code. code.target ≡ Target.OpenCl) }
+{
+    let facts = facts(alloc, kernel, nest)?;
+    let code = linearize(alloc, kernel, nest, Target::OpenCl)?;
+    guarded(alloc, code, &facts)
+}
+
+/// The code of a kernel for a target; for OpenCL with its barriers, and without a race.
 fn code_for(alloc: Global, target: Target, kernel: &Kernel) -> Result<Code, Fault>
     ensures { IfOk result (λ code. code.target ≡ target) }
 {
     let plain = plain_kernel(alloc, kernel)?;
     let nest = nest(alloc, plain.kernel())?;
-    linearize(alloc, plain.kernel(), nest.as_slice(), target)
+    match target {
+        Target::C => linearize(alloc, plain.kernel(), nest.as_slice(), Target::C),
+        Target::OpenCl => shared_code(alloc, plain.kernel(), nest.as_slice()),
+    }
 }
 
 /// The word of a target.
@@ -81,19 +104,24 @@ fn word_of(target: Target) -> &'static str {
     }
 }
 
-/// The code of the kernel of a file for a target.
-fn linear_code(alloc: Global, target: Target, kernel: &[u8]) -> Result<Code, JobFault>
+/// The code of a kernel after a script for a target.
+fn linear_code(
+    alloc: Global,
+    target: Target,
+    kernel: &[u8],
+    script: &[u8],
+) -> Result<Code, JobFault>
     ensures { IfOk result (λ code. code.target ≡ target) }
 {
-    let sound = kernel_of(alloc, kernel)?;
-    match code_for(alloc, target, sound.kernel()) {
+    let last = kernel_after(alloc, kernel, script)?;
+    match code_for(alloc, target, last.kernel()) {
         Ok(code) => Ok(code),
         Err(fault) => Err(placed(alloc, fault, Site::Target, 0, word_of(target))),
     }
 }
 
 /// The code of a kernel after a script for a target.
-pub(crate) fn write_job(
+pub fn write_job(
     alloc: Global,
     target: Target,
     kernel: &[u8],
@@ -105,7 +133,7 @@ pub(crate) fn write_job(
 {
     match known_code(alloc, target, kernel, script)? {
         Some(code) => Ok(code),
-        None => linear_code(alloc, target, kernel),
+        None => linear_code(alloc, target, kernel, script),
     }
 }
 

@@ -2,7 +2,9 @@
 ghost use Rattle.std.specs.Prelude.{◌≡◌, IfOk, IfErr};
 ghost use Rattle.loopw_core.specs.Written.{IsRefusalOf, IsText, MayRefuse, first_of, second_of};
 
+use crate::evals::{eval_job, run_job};
 use crate::fault::JobFault;
+use crate::gens::gen_text;
 use crate::shows::show_job;
 use crate::targets::write_text;
 use crate::words::Form;
@@ -28,6 +30,13 @@ fn second_of(files: &[Listed<u8>]) -> &[u8]
     }
 }
 
+fn third_of(files: &[Listed<u8>]) -> &[u8] {
+    match files {
+        [] => &[],
+        [_, rest @ ..] => second_of(rest),
+    }
+}
+
 /// What is written for these files.
 pub(crate) fn text_for(alloc: Global, form: Form, files: &[Listed<u8>]) -> Result<Vec<u8>, JobFault>
     ensures text { IfOk result (λ text. IsText form files.now text.items) }
@@ -37,6 +46,9 @@ pub(crate) fn text_for(alloc: Global, form: Form, files: &[Listed<u8>]) -> Resul
     let second = second_of(files);
     match form {
         Form::Write(target) => write_text(alloc, target, first, second),
-        Form::Show => show_job(alloc, first),
+        Form::Show => show_job(alloc, first, second),
+        Form::Eval => eval_job(alloc, first, second),
+        Form::Run => run_job(alloc, first, second, third_of(files)),
+        Form::Gen(number) => gen_text(alloc, number),
     }
 }
