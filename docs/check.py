@@ -35,7 +35,8 @@ class Wrong(Exception):
 
 def documents():
     fixed = ["README.md", "docs/TUTORIAL.md", "docs/REFERENCE.md", "docs/REFUSALS.md"]
-    examples = sorted(os.listdir(os.path.join(TOP, "examples")))
+    folder = os.path.join(TOP, "examples")
+    examples = [name for name in sorted(os.listdir(folder)) if os.path.isdir(os.path.join(folder, name))]
     return fixed + ["examples/%s/README.md" % name for name in examples]
 
 
